@@ -1,0 +1,3 @@
+pub mod Board
+pub mod Games
+pub mod Promise
