@@ -1,3 +1,6 @@
 pub mod Board
 pub mod Games
 pub mod Promise
+pub mod Geometry
+pub mod Rows
+pub mod Sides
