@@ -1,6 +1,9 @@
 // Boards of six-sided cells: the sides, the sizes a board can have, and the geometry, in code.
+mod geometry;
 mod side;
 mod size;
 
+pub use geometry::borders;
+pub use geometry::neighbour;
 pub use side::Side;
 pub use size::Size;
