@@ -16,3 +16,6 @@ pub use stones::first_pair;
 pub use stones::lift;
 pub use stones::place;
 pub use stones::stone;
+
+#[cfg(test)]
+mod tests;

@@ -22,9 +22,7 @@ pub loop-k-again : need.loop-k-again
 loop-k-again c =
     let b = laid (c .args .size .n) (c .args .cells .now) in
     let j = c .in-Some-neighbour .j in
-    let other : byNumber (at b j) ≡ Some (c .in-Some .side) → ⊥ =
-    λ e. let o : c .stone-in-loop-k .result ≡ Some (c .in-Some .side) = c .stone-in-loop-k .ensures .value ∙ e in grind arith
-    in (
+    let other : byNumber (at b j) ≡ Some (c .in-Some .side) → ⊥ = λ e. grind arith in (
       c .loop-k .inv .0,
       before-other b (c .cells .i) (c .loop-k .k) j (c .in-Some .side) (c .in-Some .ensures tt .value) other (c .in-Some-neighbour .ensures tt .value) (c .loop-k .inv .1),
     )
