@@ -5,8 +5,8 @@ mod size;
 mod stones;
 
 pub use geometry::borders;
+pub use geometry::directions;
 pub use geometry::neighbour;
-pub use geometry::neighbours_are_all;
 pub use side::Side;
 pub use size::Size;
 pub use stones::Unplaced;
@@ -16,6 +16,3 @@ pub use stones::first_pair;
 pub use stones::lift;
 pub use stones::place;
 pub use stones::stone;
-
-#[cfg(test)]
-mod tests;

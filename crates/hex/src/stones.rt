@@ -102,3 +102,24 @@ pub fn first_pair(size: Size, cells: &[u8]) -> Option<(u16, u16)>
     }
     found
 }
+
+#[cfg(test)]
+mod tests {
+    use super::*;
+    use std::test::*;
+
+    #[test]
+    fn first_two() -> Result<(), Fail> {
+        let Some(size) = Size::new(3) else {
+            return check(false);
+        };
+        let mut cells = [0; 9];
+        place(&mut cells, Side::One, 8)?;
+        place(&mut cells, Side::Two, 4)?;
+        place(&mut cells, Side::One, 0)?;
+        check_eq(first_pair(size, &cells), None)?;
+        place(&mut cells, Side::Two, 6)?;
+        check_eq(first_pair(size, &cells), Some((4, 6)))?;
+        check_eq(count_empty(&cells), 5)
+    }
+}
