@@ -2,3 +2,4 @@ pub mod Stones
 pub mod Ways
 pub mod Better
 pub mod Outcome
+pub mod Mirror

@@ -10,12 +10,17 @@ use lib.ListN.{length, getD, set}
 use Rattle.std.proofs.shelf.Lists.{length-set, getD-set-same, getD-set-other}
 use Rattle.std.proofs.shelf.Tests.{cases-eq, and-parts, and-from, lt-ltb}
 use Rattle.std.proofs.shelf.Ways.{tells}
-use Rattle.hex.specs.Board.{Board, empties, put}
+use Rattle.hex.specs.Board.{Board, empties, put, other}
 use Rattle.hex.specs.Promise.{good-cells, Good}
 
 -- the two that play
 abbrev pub Side : ℕ → Type 0
 Side s = (s ≡ 1) ⊎ (s ≡ 2)
+
+-- Who plays against a side is a side.
+pub other-side : (s : ℕ) → Side s → Side (other s)
+other-side s (inl e) = inr (omega arith)
+other-side s (inr e) = inl (omega arith)
 
 -- What holds of the changed cell and of every other holds of all: the only place that asks whether a cell is the changed one.
 pub set-each : (P : ℕ → ℕ → Type 0) (l : List ℕ) (i x : ℕ) → i < length l → P i x → ((k : ℕ) → k ≢ i → P k (getD l k 0)) → (k : ℕ) → P k (getD (set l i x) k 0)

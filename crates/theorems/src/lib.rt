@@ -5,3 +5,8 @@ pub fn never_a_loss()
     ensures { λ _. ⌜ Never-a-loss ⌝ }
 {
 }
+
+pub fn turned_over()
+    ensures { λ _. ⌜ Turned-over ⌝ }
+{
+}
