@@ -3,3 +3,4 @@ pub mod Ways
 pub mod Better
 pub mod Outcome
 pub mod Mirror
+pub mod Decided

@@ -16,11 +16,11 @@ abbrev pub Against : ℕ → ℕ → Type 0
 Against s r = ((s ≡ 1) × (r ≡ 2)) ⊎ ((s ≡ 2) × (r ≡ 1))
 
 -- Each plays against the other.
-turned : {s r : ℕ} → Against s r → Against r s
+pub turned : {s r : ℕ} → Against s r → Against r s
 turned (inl (p, q)) = inr (q, p)
 turned (inr (p, q)) = inl (q, p)
 
-against : {s r : ℕ} → Against s r → r ≡ other s
+pub against : {s r : ℕ} → Against s r → r ≡ other s
 against a = omega arith
 
 -- Who has connected has connected for good: no stone is moved.

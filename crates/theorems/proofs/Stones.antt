@@ -70,3 +70,10 @@ good-set (y ∷ l) (suc i) x h e =
 -- A good board stays good when a cell is emptied or given to a side.
 pub good-put : (b : Board) (x i : ℕ) → x < 3 → Good b → Good (put b x i)
 good-put b x i h g = (g .0, length-set (b .cells) i x ∙ g .1, good-set (b .cells) i x h (g .2))
+
+-- A stone on an empty place: one empty place fewer.
+pub one-fewer : (l : List ℕ) (i x : ℕ) → i < length l → getD l i 0 ≡ 0 → 0 < x → empties l ≡ suc (empties (set l i x))
+unfolding empties
+one-fewer [] i x h z p = omega arith
+one-fewer (y ∷ l) zero x h z p = grind (arith, tells)
+one-fewer (y ∷ l) (suc i) x h z p = let r = one-fewer l i x (omega arith) z p in omega arith
