@@ -32,14 +32,16 @@ pub put-better : (s : ℕ) (b c : Board) (i y : ℕ) → i < length (c .cells) �
 put-better s b c i y h k u = record {
   wide = k .wide;
   long = length-set (c .cells) i y ∙ k .long;
-  up = set-each (λ j v. Up s (at b j) v) (c .cells) i y h u (λ j _. k .up j) }
+  up = set-each (λ j v. Up s (at b j) v) (c .cells) i y h u (λ j _. k .up j);
+}
 
 -- A cell made worse on the worse board, whatever it was.
 pub put-worse : (s : ℕ) (b c : Board) (i x : ℕ) → i < length (b .cells) → Better s b c → Up s x (at c i) → Better s (put b x i) c
 put-worse s b c i x h k u = record {
   wide = k .wide;
   long = k .long ∙ sym (length-set (b .cells) i x);
-  up = set-each (λ j v. Up s v (at c j)) (b .cells) i x h u (λ j _. k .up j) }
+  up = set-each (λ j v. Up s v (at c j)) (b .cells) i x h u (λ j _. k .up j);
+}
 
 -- The same cell changed on both.
 pub put-both : (s : ℕ) (b c : Board) (i x y : ℕ) → i < length (b .cells) → Better s b c → Up s x y → Better s (put b x i) (put c y i)
@@ -47,8 +49,9 @@ put-both s b c i x y h k u = record {
   wide = k .wide;
   long = length-set (c .cells) i y ∙ (k .long ∙ sym (length-set (b .cells) i x));
   up = set-each (λ j v. Up s v (at (put c y i) j)) (b .cells) i x h
-    (rw (getD-set-same (c .cells) i y 0 (omega (arith, k .long))) u)
-    (λ j n. rw (getD-set-other (c .cells) i j y 0 n) (k .up j)) }
+      (rw (getD-set-same (c .cells) i y 0 (omega (arith, k .long))) u)
+      (λ j n. rw (getD-set-other (c .cells) i j y 0 n) (k .up j));
+}
 
 -- A side that has connected has connected on every better board, by the same way.
 pub better-connects : (s : ℕ) → Side s → (b c : Board) → Better s b c → Connects b s → Connects c s
@@ -56,7 +59,8 @@ better-connects s side b c k = carried {f = λ i. i} (record {
   stone = λ i h. (omega (arith, k .long), omega (arith, k .up i));
   next = λ i j _ _ e. rw (k .wide) e;
   first = λ i _ e. rw (k .wide) e;
-  last = λ i _ e. rw (k .wide) e })
+  last = λ i _ e. rw (k .wide) e;
+})
 
 -- On a board without empty cells, to force that it connects a side must have connected.
 pub full : (s : ℕ) → {b : Board} {t : ℕ} → Forces s b t → empties (b .cells) ≡ 0 → Connects b s
@@ -73,6 +77,7 @@ own-move s side b c i h z k forces = go (k .up i)
     more : Better s (put b s i) c → Empty-in (c .cells) ⊎ (empties (c .cells) ≡ 0) → Forces s c s
     more l (inl (j, hj, zj)) = mine j hj zj (forces (put c s j) (put-better s (put b s i) c j s hj l (inr (inl refl))))
     more l (inr e) = has s (full s (forces c l) e)
+
     go : Up s (at b i) (at c i) → Forces s c s
     go (inl e) = mine i (omega (arith, k .long)) (e ∙ z) (forces (put c s i) (put-both s b c i s s h k (inl refl)))
     go (inr (inl e)) = more (put-worse s b c i s h k (inr (inl e))) (empty-or-full (c .cells))
@@ -87,12 +92,14 @@ other-move s side b c m hm zm k forces = go (empty-or-full (c .cells))
   where
     any : (d : Board) → Better s b d → Forces s d s
     any d l = forces m hm zm d (put-worse s b d m (other s) hm l (inr (inr refl)))
+
     reply : (i : ℕ) → i < length (c .cells) → at c i ≡ 0 → Up s (at b i) (at c i) → Forces s (put c (other s) i) s
     reply i h z (inl e) =
         let hb : i < length (b .cells) = omega (arith, k .long) in
         forces i hb (sym e ∙ z) (put c (other s) i) (put-both s b c i (other s) (other s) hb k (inl refl))
     reply i h z (inr (inl e)) = absurd (omega arith)
     reply i h z (inr (inr e)) = any (put c (other s) i) (put-better s b c i (other s) h k (inr (inr e)))
+
     go : Empty-in (c .cells) ⊎ (empties (c .cells) ≡ 0) → Forces s c (other s)
     go (inl (j, hj, zj)) = theirs (empty-counts (c .cells) j hj zj) (λ i h z. reply i h z (k .up i))
     go (inr e) = has (other s) (full s (any c k) e)

@@ -9,7 +9,7 @@ use Rattle.std.proofs.shelf.Bits.{mul-lt}
 use Rattle.std.proofs.shelf.Tests.{cases-eq, cases-order}
 use Rattle.hex.specs.Board.{Board, at, Connects, all-cells, empty, empties, put, other}
 use Rattle.hex.specs.Games.{Forces, has, mine, theirs}
-use Rattle.hex.specs.Promise.{Good, good-cells, Never-both, Never-neither, One-of-both, First-wins, Turned, Turned-over, Never-a-loss}
+use Rattle.hex.specs.Promise.{Good, good-cells, Never-neither, One-of-both, First-wins, Turned, Turned-over, Never-a-loss}
 use Rattle.theorems.proofs.Stones.{Side, one-fewer, empty-counts, good-put}
 use Rattle.theorems.proofs.Better.{never-a-loss}
 use Rattle.theorems.proofs.Mirror.{turned-over}
@@ -34,6 +34,7 @@ decided-by-move b s r a some each =
     at-cell : (i : ℕ) → i < length (b .cells) → (at b i ≡ 0) ⊎ (at b i ≡ 0 → ⊥) → ((at b i ≡ 0) × Forces s (put b s i) r) ⊎ (at b i ≡ 0 → Forces r (put b s i) r)
     at-cell i h (inl z) = ⊎-elim (λ f. inl (z, f)) (λ f. inr (λ _. f)) (each i h z)
     at-cell i h (inr taken) = inr (λ z. absurd (taken z))
+
     go : ((i : ℕ) × (i < length (b .cells)) × ((at b i ≡ 0) × Forces s (put b s i) r)) ⊎ ((i : ℕ) → i < length (b .cells) → at b i ≡ 0 → Forces r (put b s i) r) →
         Forces s b s ⊎ Forces r b s
     go (inl (i, h, (z, f))) = inl (mine i h z (subst (Forces s (put b s i)) (against a) f))
@@ -70,7 +71,7 @@ good-empty n pos = (pos, length-all-cells (n * n), good-all-cells (n * n))
 turned-empty : (n : ℕ) → Turned (empty n) (empty n)
 turned-empty n = (refl, refl, λ i h. simp at-all-cells)
 
-module _ (never-both : Never-both) (never-neither : Never-neither) where
+module _ (never-neither : Never-neither) where
   -- Played to the end: on a full board one side has connected, and before that each move leaves an empty cell fewer.
   decided : (k : ℕ) (b : Board) (s r : ℕ) → Against s r → Good b → empties (b .cells) ≡ k → Forces s b s ⊎ Forces r b s
   unfolding Never-neither
@@ -81,7 +82,7 @@ module _ (never-both : Never-both) (never-neither : Never-neither) where
 
   pub one-of-both : One-of-both
   unfolding One-of-both
-  one-of-both b t g side = (go side, λ f k. not-both never-both 1 f 2 (inl (refl, refl)) g k)
+  one-of-both b t g side = (go side, λ f k. not-both 1 f 2 (inl (refl, refl)) g k)
     where
       go : Side t → Forces 1 b t ⊎ Forces 2 b t
       go (inl e) = rw e (decided (empties (b .cells)) b 1 2 (inl (refl, refl)) g refl)

@@ -1,6 +1,8 @@
 pub mod Stones
 pub mod Ways
+pub mod Crossing
+pub mod NeverBoth
 pub mod Better
-pub mod Outcome
 pub mod Mirror
+pub mod Outcome
 pub mod Decided

@@ -109,7 +109,7 @@ module _ (b c : Board) (g : Good b) (m : Turned b c) where
       each = set-each (λ k v. k < length (b .cells) → at (put c y (across (b .wide) i)) (across (b .wide) k) ≡ swapped v) (b .cells) i x h
           (λ _. getD-set-same (c .cells) (across (b .wide) i) y 0 (across-on-other i h) ∙ e)
           (λ k apart hk. getD-set-other (c .cells) (across (b .wide) i) (across (b .wide) k) y 0
-            (λ same. apart (across-same (b .wide) k i (g .0) (omega (arith, g .1)) (omega (arith, g .1)) same)) ∙ m .2 k hk)
+          (λ same. apart (across-same (b .wide) k i (g .0) (omega (arith, g .1)) (omega (arith, g .1)) same)) ∙ m .2 k hk)
 
   -- A way of one side becomes a way of the other.
   pub turned-connects : (s : ℕ) → Side s → Connects b s → Connects c (other s)
@@ -117,7 +117,8 @@ module _ (b c : Board) (g : Good b) (m : Turned b c) where
     stone = λ i h. (across-on-other i (h .0), m .2 i (h .0) ∙ (ap swapped (h .1) ∙ sym (swapped-side s side)));
     next = λ i j hi hj e. rw (m .0) (next-across (b .wide) i j (g .0) (omega (arith, g .1)) (omega (arith, g .1)) e);
     first = λ i h e. rw (m .0) (begins-across (b .wide) s i side (g .0) (omega (arith, g .1)) e);
-    last = λ i h e. rw (m .0) (ends-across (b .wide) s i side (g .0) (omega (arith, g .1)) e) })
+    last = λ i h e. rw (m .0) (ends-across (b .wide) s i side (g .0) (omega (arith, g .1)) e);
+  })
 
   -- After the other's move on the board turned over: its stone stands across from where it stands on the first board.
   answered : (s i : ℕ) → Side s → i < length (c .cells) → at c i ≡ 0 →

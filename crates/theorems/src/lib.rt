@@ -1,12 +1,14 @@
 // The theorems for boards of every size, each on the contract of a function.
-ghost use Rattle.hex.specs.Promise.{Never-a-loss, Turned-over};
+ghost use Rattle.hex.specs.Promise.{Never-both, Never-a-loss, Turned-over};
+
+pub fn never_both()
+    ensures { λ _. ⌜ Never-both ⌝ }
+{}
 
 pub fn never_a_loss()
     ensures { λ _. ⌜ Never-a-loss ⌝ }
-{
-}
+{}
 
 pub fn turned_over()
     ensures { λ _. ⌜ Turned-over ⌝ }
-{
-}
+{}
