@@ -11,19 +11,10 @@ use Rattle.hex.specs.Board.{Board, at, Connects, all-cells, empty, empties, put
 use Rattle.hex.specs.Games.{Forces, has, mine, theirs}
 use Rattle.hex.specs.Promise.{Good, good-cells, Never-neither, One-of-both, First-wins, Turned, Turned-over, Never-a-loss}
 use Rattle.theorems.proofs.Stones.{Side, one-fewer, empty-counts, good-put}
+use Rattle.theorems.proofs.MustEnd.{all-or}
 use Rattle.theorems.proofs.Better.{never-a-loss}
 use Rattle.theorems.proofs.Mirror.{turned-over}
 use Rattle.theorems.proofs.Outcome.{Against, against, turned, not-both}
-
--- Of the numbers below k, one has the first property or all have the second, if each has one of them.
-all-or : (P Q : ℕ → Type 0) (k : ℕ) → ((i : ℕ) → i < k → P i ⊎ Q i) → ((i : ℕ) × (i < k) × P i) ⊎ ((i : ℕ) → i < k → Q i)
-all-or P Q zero each = inr (λ i h. absurd (omega arith))
-all-or P Q (suc k) each = go (each k (omega arith)) (all-or P Q k (λ i h. each i (omega arith)))
-  where
-    go : P k ⊎ Q k → ((i : ℕ) × (i < k) × P i) ⊎ ((i : ℕ) → i < k → Q i) → ((i : ℕ) × (i < suc k) × P i) ⊎ ((i : ℕ) → i < suc k → Q i)
-    go (inl p) r = inl (k, omega arith, p)
-    go (inr q) (inl (i, h, p)) = inl (i, omega arith, p)
-    go (inr q) (inr all) = inr (λ i h. elim (cases-eq i k) [ inl e ↦ subst Q (sym e) q | inr n ↦ all i (omega arith) ])
 
 -- The side to move has a move after which it can force it, or the other can after every move.
 decided-by-move : (b : Board) (s r : ℕ) → Against s r → 0 < empties (b .cells) →
