@@ -11,6 +11,7 @@ use Rattle.hex.specs.Board.{Board, at, Connects, all-cells, empty, empties, put
 use Rattle.hex.specs.Games.{Forces, has, mine, theirs}
 use Rattle.hex.specs.Promise.{Good, good-cells, Never-neither, One-of-both, First-wins, Turned, Turned-over, Never-a-loss}
 use Rattle.theorems.proofs.Stones.{Side, one-fewer, empty-counts, good-put}
+use Rattle.theorems.proofs.NeverNeither.{never-neither}
 use Rattle.theorems.proofs.MustEnd.{all-or}
 use Rattle.theorems.proofs.Better.{never-a-loss}
 use Rattle.theorems.proofs.Mirror.{turned-over}
@@ -62,33 +63,32 @@ good-empty n pos = (pos, length-all-cells (n * n), good-all-cells (n * n))
 turned-empty : (n : ℕ) → Turned (empty n) (empty n)
 turned-empty n = (refl, refl, λ i h. simp at-all-cells)
 
-module _ (never-neither : Never-neither) where
-  -- Played to the end: on a full board one side has connected, and before that each move leaves an empty cell fewer.
-  decided : (k : ℕ) (b : Board) (s r : ℕ) → Against s r → Good b → empties (b .cells) ≡ k → Forces s b s ⊎ Forces r b s
-  unfolding Never-neither
-  decided zero b s r a g e = ⊎-elim (λ w. inl (has s w)) (λ w. inr (has s w)) (one-or-other b s r a (never-neither b g e))
-  decided (suc k) b s r a g e =
-      decided-by-move b s r a (omega arith)
-      (λ i h z. ⊎-swap (decided k (put b s i) r s (turned a) (good-put b s i (omega arith) g) (omega (arith, one-fewer (b .cells) i s h z (omega arith)))))
+-- Played to the end: on a full board one side has connected, and before that each move leaves an empty cell fewer.
+decided : (k : ℕ) (b : Board) (s r : ℕ) → Against s r → Good b → empties (b .cells) ≡ k → Forces s b s ⊎ Forces r b s
+unfolding Never-neither
+decided zero b s r a g e = ⊎-elim (λ w. inl (has s w)) (λ w. inr (has s w)) (one-or-other b s r a (never-neither b g e))
+decided (suc k) b s r a g e =
+    decided-by-move b s r a (omega arith)
+    (λ i h z. ⊎-swap (decided k (put b s i) r s (turned a) (good-put b s i (omega arith) g) (omega (arith, one-fewer (b .cells) i s h z (omega arith)))))
 
-  pub one-of-both : One-of-both
-  unfolding One-of-both
-  one-of-both b t g side = (go side, λ f k. not-both 1 f 2 (inl (refl, refl)) g k)
-    where
-      go : Side t → Forces 1 b t ⊎ Forces 2 b t
-      go (inl e) = rw e (decided (empties (b .cells)) b 1 2 (inl (refl, refl)) g refl)
-      go (inr e) = rw e (⊎-swap (decided (empties (b .cells)) b 2 1 (inr (refl, refl)) g refl))
+pub one-of-both : One-of-both
+unfolding One-of-both
+one-of-both b t g side = (go side, λ f k. not-both 1 f 2 (inl (refl, refl)) g k)
+  where
+    go : Side t → Forces 1 b t ⊎ Forces 2 b t
+    go (inl e) = rw e (decided (empties (b .cells)) b 1 2 (inl (refl, refl)) g refl)
+    go (inr e) = rw e (⊎-swap (decided (empties (b .cells)) b 2 1 (inr (refl, refl)) g refl))
 
-  -- If the second side could force it on the empty board, then so could the first, moving second on the board turned over: the same
-  -- board. A stone more is never a loss, so it puts one anywhere and plays on as if it were second.
-  pub first-wins : First-wins
-  unfolding First-wins One-of-both Turned-over Never-a-loss
-  first-wins n pos = go (one-of-both (empty n) 1 (good-empty n pos) (inl refl) .0)
-    where
-      go : Forces 1 (empty n) 1 ⊎ Forces 2 (empty n) 1 → Forces 1 (empty n) 1
-      go (inl f) = f
-      go (inr f) =
-          let second : Forces 1 (empty n) 2 = turned-over (empty n) (empty n) 2 1 (good-empty n pos) (turned-empty n) (inr refl) (inl refl) f in
-          let on : 0 < length (all-cells (n * n)) = omega (arith, length-all-cells (n * n), mul-lt 0 0 n n pos pos) in
-          let z = at-all-cells (n * n) 0 in
-          mine 0 on z (never-a-loss (empty n) 1 2 0 (good-empty n pos) (inl refl) (inr refl) on z second)
+-- If the second side could force it on the empty board, then so could the first, moving second on the board turned over: the same
+-- board. A stone more is never a loss, so it puts one anywhere and plays on as if it were second.
+pub first-wins : First-wins
+unfolding First-wins One-of-both Turned-over Never-a-loss
+first-wins n pos = go (one-of-both (empty n) 1 (good-empty n pos) (inl refl) .0)
+  where
+    go : Forces 1 (empty n) 1 ⊎ Forces 2 (empty n) 1 → Forces 1 (empty n) 1
+    go (inl f) = f
+    go (inr f) =
+        let second : Forces 1 (empty n) 2 = turned-over (empty n) (empty n) 2 1 (good-empty n pos) (turned-empty n) (inr refl) (inl refl) f in
+        let on : 0 < length (all-cells (n * n)) = omega (arith, length-all-cells (n * n), mul-lt 0 0 n n pos pos) in
+        let z = at-all-cells (n * n) 0 in
+        mine 0 on z (never-a-loss (empty n) 1 2 0 (good-empty n pos) (inl refl) (inr refl) on z second)

@@ -2,6 +2,7 @@ pub mod Stones
 pub mod Ways
 pub mod MustEnd
 pub mod Line
+pub mod NeverNeither
 pub mod Crossing
 pub mod NeverBoth
 pub mod Better

@@ -165,7 +165,8 @@ module _ (w t : ℕ) (colour : Cell → Bool) where
   started hw ht = record {
     ones = record { mine = refl; bottom = omega arith; right = omega arith; off = omega arith; led = λ a. absurd (omega arith) };
     twos = record { mine = refl; bottom = omega arith; right = omega arith; off = omega arith; led = λ a. absurd (omega arith) };
-    near = omega arith }
+    near = omega arith;
+  }
 
   -- What lies behind the start is the corner, which is on no line.
   nothing-before : OnLine (back begin) → ⊥
@@ -179,6 +180,7 @@ module _ (w t : ℕ) (colour : Cell → Bool) where
     where
       x : Cell
       x = ahead (l .one) (l .two)
+
       go : (s : Bool) → ringed x ≡ s → back (step l) ≡ l
       go true e =
           ap back (replaced-one l x e) ∙ (ap (replaced (record { one = x; two = l .two })) (one-behind (l .one) (l .two) (h .near) (h .ones .off) (h .twos .off))
@@ -194,17 +196,28 @@ module _ (w t : ℕ) (colour : Cell → Bool) where
     where
       x : Cell
       x = ahead (l .one) (l .two)
+
       by-one : Near (l .one) x
       by-one = ahead-of-one (l .one) (l .two) (h .near) (h .ones .off) (h .twos .off)
+
       by-two : Near (l .two) x
       by-two = ahead-of-two (l .one) (l .two) (h .near) (h .ones .off) (h .twos .off)
+
       corner : 0 < x .row + x .column
       corner = ahead-off (l .one) (l .two) (h .near) (h .ones .off) (h .twos .off)
+
       further : x .row ≤ t → x .column ≤ w → (s : Bool) → ringed x ≡ s → OnLine (replaced l x)
       further r c true e = subst OnLine (sym (replaced-one l x e)) (record {
-        ones = led-on true (l .one) x (h .ones) by-one e r c corner; twos = h .twos; near = turn-near (l .two) x by-two })
+        ones = led-on true (l .one) x (h .ones) by-one e r c corner;
+        twos = h .twos;
+        near = turn-near (l .two) x by-two;
+      })
       further r c false e = subst OnLine (sym (replaced-two l x e)) (record {
-        ones = h .ones; twos = led-on false (l .two) x (h .twos) by-two e r c corner; near = by-one })
+        ones = h .ones;
+        twos = led-on false (l .two) x (h .twos) by-two e r c corner;
+        near = by-one;
+      })
+
       past : (x .row < t + 1) ⊎ (t + 1 ≤ x .row) → (x .column < w + 1) ⊎ (w + 1 ≤ x .column) → (Across true ⊎ Across false) ⊎ OnLine (replaced l x)
       past (inl r) (inl c) = inr (further (omega arith) (omega arith) (ringed x) refl)
       past (inr r) _ = inl (inl (l .one, h .ones .led (omega (arith, by-one)), omega (arith, by-one, h .ones .bottom)))

@@ -26,12 +26,14 @@ pigeons (suc N) f below distinct = pigeons N closed closed-below closed-distinct
   where
     closed : ℕ → ℕ
     closed i = f i - cond (ltb (f (suc N)) (f i)) 1 0
+
     closed-below : (i : ℕ) → i < N + 1 → closed i < N
     closed-below i h =
         let b = below i (omega arith) in
         let l = below (suc N) (omega arith) in
         let d = distinct i (suc N) (omega arith) (omega arith) in
         grind (arith, tells)
+
     closed-distinct : (i j : ℕ) → i < j → j < N + 1 → closed i ≡ closed j → ⊥
     closed-distinct i j h k e =
         let d = distinct i j h (omega arith) in
