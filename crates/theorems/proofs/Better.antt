@@ -116,3 +116,11 @@ better s side {b} (theirs p f) c k =
 pub never-a-loss : Never-a-loss
 unfolding Never-a-loss
 never-a-loss b s t i good side _ h z f = better s side f (put b s i) (put-better s b b i s h (better-refl s b) (inr (inl refl)))
+
+-- To be to move is never a loss either: with a stone more, on any cell, it is the other's move again.
+pub move-no-loss : (s : ℕ) → Side s → (b : Board) → Forces s b (other s) → Forces s b s
+move-no-loss s side b f = go (empty-or-full (b .cells))
+  where
+    go : Empty-in (b .cells) ⊎ (empties (b .cells) ≡ 0) → Forces s b s
+    go (inl (i, h, z)) = mine i h z (better s side f (put b s i) (put-better s b b i s h (better-refl s b) (inr (inl refl))))
+    go (inr e) = has s (full s f e)

@@ -1,11 +1,12 @@
 pub mod Stones
 pub mod Ways
-pub mod MustEnd
-pub mod Line
-pub mod NeverNeither
 pub mod Crossing
 pub mod NeverBoth
+pub mod MustEnd
+pub mod Cells
+pub mod Line
+pub mod NeverNeither
 pub mod Better
 pub mod Mirror
-pub mod Outcome
+pub mod NotBoth
 pub mod Decided

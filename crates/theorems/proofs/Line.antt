@@ -1,87 +1,23 @@
--- Along the line between the two sides' cells: on a board without empty cells it ends at a border, and there a side has connected.
-use mathlib.Core.Path.{_≡_, refl, sym, ap, ap₂, subst, _∙_}
+-- Along the line between the two sides' cells: on a board without empty cells it ends past a border, and there a side has connected.
+use mathlib.Core.Path.{_≡_, refl, sym, ap, subst, _∙_}
 use mathlib.Core.Bool.{Bool, true, false, not, cond}
-use mathlib.Core.Logic.{_⊎_, inl, inr, ⊎-elim, _≢_}
-use Prim.Native.Nat.{ℕ, zero, suc, _+_, _*_, _-_, _/_, _%_, _≤_, _<_}
+use mathlib.Core.Logic.{_⊎_, inl, inr}
+use Prim.Native.Nat.{ℕ, _+_, _*_, _≤_, _<_}
 use native.Mathlib.Omega.{arith}
 use lib.Dec.{eqb}
-use Rattle.std.proofs.shelf.Bits.{mul-add-lt, div-mul-add, mod-mul-add}
+use Rattle.std.proofs.shelf.Bits.{mul-add-lt}
 use Rattle.std.proofs.shelf.Tests.{cases-lt}
 use Rattle.std.proofs.shelf.Ways.{tells}
-use Rattle.theorems.proofs.MustEnd.{must-end}
-
--- A cell by row and column. The board has rows 1 to t and columns 1 to w. Around it lies a ring: row 0 and row t + 1 belong to
--- side 1, column 0 and column w + 1 to side 2.
-pub record Cell : Type 0 where
-  pub row : ℕ
-  pub column : ℕ
-
-same-cell : (p q : Cell) → p .row ≡ q .row → p .column ≡ q .column → p ≡ q
-same-cell p q e f = λ i. record { row = e i; column = f i }
-
--- Two cells touch: rows, columns and rising diagonals differ by at most one. Then twice the row plus the column tells them apart.
-pub record Near (p q : Cell) : Type 0 where
-  pub up : p .row ≤ q .row + 1
-  pub down : q .row ≤ p .row + 1
-  pub left : p .column ≤ q .column + 1
-  pub right : q .column ≤ p .column + 1
-  pub before : p .row + p .column ≤ q .row + q .column + 1
-  pub after : q .row + q .column ≤ p .row + p .column + 1
-  pub apart : 2 * p .row + p .column ≢ 2 * q .row + q .column
-
--- Where two cells touch, a third touches both on either side. With side 1's cell p on the left hand and side 2's cell q on the
--- right, this is the one in front; the one behind is `ahead q p`.
-abbrev ahead : Cell → Cell → Cell
-ahead p q = record { row = p .row + p .column - q .column; column = q .row + q .column - p .row }
-
--- The cell ahead of p and q, of which p is not in column 0 and q not in row 0, lies where the numbers say, and touches both. Seen
--- from it, what lies behind is the cell that it took the place of.
-module _ (p q : Cell) (n : Near p q) (h : 0 < p .column) (k : 0 < q .row) where
-  ahead-room : (q .column ≤ p .row + p .column) × (p .row ≤ q .row + q .column)
-  ahead-room = omega arith
-
-  ahead-off : 0 < ahead p q .row + ahead p q .column
-  ahead-off = let r = ahead-room in omega arith
-
-  ahead-of-one : Near p (ahead p q)
-  ahead-of-one = let r = ahead-room in omega arith
-
-  ahead-of-two : Near q (ahead p q)
-  ahead-of-two = let r = ahead-room in omega arith
-
-  one-behind : ahead q (ahead p q) ≡ p
-  one-behind = let r = ahead-room in same-cell (ahead q (ahead p q)) p (omega arith) (omega arith)
-
-  two-behind : ahead (ahead p q) p ≡ q
-  two-behind = let r = ahead-room in same-cell (ahead (ahead p q) p) q (omega arith) (omega arith)
-
-turn-near : (p q : Cell) → Near p q → Near q p
-turn-near p q n = omega arith
-
--- How far a cell is from its side's first border: for side 1, which is `true`, the row, and for side 2 the column.
-abbrev pub along : Bool → Cell → ℕ
-along s p = cond s (p .row) (p .column)
-
--- Next to a cell of the first ring there is only the first row.
-one-along : (s : Bool) (p q : Cell) → Near p q → along s p ≡ 0 → 0 < along s q → along s q ≡ 1
-one-along true p q n z a = omega arith
-one-along false p q n z a = omega arith
-
-zero-or-more : (k : ℕ) → (k ≡ 0) ⊎ (0 < k)
-zero-or-more zero = inl refl
-zero-or-more (suc k) = inr (omega arith)
-
--- Two numbers in one, the second below n: row and column as in the number of a cell.
-pair-same : (n a b c d : ℕ) → b < n → d < n → a * n + b ≡ c * n + d → (a ≡ c) × (b ≡ d)
-pair-same n a b c d h k e =
-    (sym (div-mul-add a n b h) ∙ (ap (λ x. x / n) e ∙ div-mul-add c n d k), sym (mod-mul-add a n b h) ∙ (ap (λ x. x % n) e ∙ mod-mul-add c n d k))
+use Rattle.theorems.proofs.MustEnd.{must-end, pair-same, zero-or-more}
+use Rattle.theorems.proofs.Cells.{Cell, same-cell, Near, turn-near, ahead, ahead-off, ahead-of-one, ahead-of-two, one-behind, two-behind, along, one-along}
 
 -- the line is followed by pairs of cells that touch: one of side 1, one of side 2
 record Place : Type 0 where
   one : Cell
   two : Cell
 
--- a board w wide and t tall, each of whose cells is of side 1 (`true`) or of side 2
+-- A board w wide and t tall, rows 1 to t and columns 1 to w, each of whose cells is of side 1 (`true`) or of side 2 (`false`).
+-- Around it lies a ring: row 0 and row t + 1 belong to side 1, column 0 and column w + 1 to side 2.
 module _ (w t : ℕ) (colour : Cell → Bool) where
   -- a cell of the board, of side s
   pub record On (s : Bool) (p : Cell) : Type 0 where
@@ -100,7 +36,7 @@ module _ (w t : ℕ) (colour : Cell → Bool) where
   abbrev pub Across : Bool → Type 0
   Across s = (p : Cell) × Led s p × (along s p ≡ cond s t w)
 
-  -- the sides of the board's cells and of the ring's
+  -- the sides of the board's cells, and of the ring's up to the last borders
   ringed : Cell → Bool
   ringed p = cond (eqb (p .row) 0) true (cond (eqb (p .column) 0) false (colour p))
 
@@ -113,10 +49,12 @@ module _ (w t : ℕ) (colour : Cell → Bool) where
     off : 0 < along (not s) p
     led : 0 < along s p → Led s p
 
+  -- A cell of side 1 is not in column 0, and one of side 2 not in row 0.
   off-corner : (s : Bool) (p : Cell) → ringed p ≡ s → 0 < p .row + p .column → 0 < along (not s) p
   unfolding ringed
   off-corner s p e h = grind (arith, tells)
 
+  -- Off the ring it is on the board.
   on-board : (s : Bool) (p : Cell) → ringed p ≡ s → 0 < along s p → 0 < along (not s) p → p .row ≤ t → p .column ≤ w → On s p
   unfolding ringed
   on-board s p e h k l m = grind (arith, tells)
@@ -156,7 +94,7 @@ module _ (w t : ℕ) (colour : Cell → Bool) where
   back : Place → Place
   back l = replaced l (ahead (l .two) (l .one))
 
-  -- It starts at the corner where the first borders of both sides meet.
+  -- It starts at the corner where the first borders of both sides meet: between two cells of the ring.
   begin : Place
   begin = record { one = record { row = 0; column = 1 }; two = record { row = 1; column = 0 } }
 
@@ -223,7 +161,7 @@ module _ (w t : ℕ) (colour : Cell → Bool) where
       past (inr r) _ = inl (inl (l .one, h .ones .led (omega (arith, by-one)), omega (arith, by-one, h .ones .bottom)))
       past (inl _) (inr c) = inl (inr (l .two, h .twos .led (omega (arith, by-two)), omega (arith, by-two, h .twos .right)))
 
-  -- Places have distinct numbers, and there are finitely many.
+  -- There are finitely many places: each is told by the numbers of its two cells, and those by one number.
   cell-code : Cell → ℕ
   cell-code p = p .row * (w + 1) + p .column
 

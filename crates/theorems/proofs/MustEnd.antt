@@ -2,9 +2,10 @@
 use mathlib.Core.Path.{_≡_, refl, sym, ap, subst, _∙_}
 use mathlib.Core.Bool.{cond}
 use mathlib.Core.Logic.{_⊎_, inl, inr, ⊎-elim}
-use Prim.Native.Nat.{ℕ, zero, suc, _+_, _-_, _<_}
+use Prim.Native.Nat.{ℕ, zero, suc, _+_, _*_, _-_, _/_, _%_, _<_}
 use native.Mathlib.Omega.{arith}
 use lib.Dec.{ltb}
+use Rattle.std.proofs.shelf.Bits.{div-mul-add, mod-mul-add}
 use Rattle.std.proofs.shelf.Tests.{cases-eq}
 use Rattle.std.proofs.shelf.Ways.{tells}
 
@@ -18,6 +19,16 @@ all-or P Q (suc k) each = go (each k (omega arith)) (all-or P Q k (λ i h. each 
     go (inr q) (inl (i, h, p)) = inl (i, omega arith, p)
     go (inr q) (inr all) =
         inr (λ i h. elim (cases-eq i k) [ inl e ↦ subst Q (sym e) q | inr n ↦ all i (omega arith) ])
+
+-- A number is 0 or more.
+pub zero-or-more : (k : ℕ) → (k ≡ 0) ⊎ (0 < k)
+zero-or-more zero = inl refl
+zero-or-more (suc k) = inr (omega arith)
+
+-- Two numbers in one, the second below n: as row and column are in the number of a cell.
+pub pair-same : (n a b c d : ℕ) → b < n → d < n → a * n + b ≡ c * n + d → (a ≡ c) × (b ≡ d)
+pair-same n a b c d h k e =
+    (sym (div-mul-add a n b h) ∙ (ap (λ x. x / n) e ∙ div-mul-add c n d k), sym (mod-mul-add a n b h) ∙ (ap (λ x. x % n) e ∙ mod-mul-add c n d k))
 
 -- There are not N + 1 distinct numbers below N: take away the last one, and close the gap that it leaves.
 pub pigeons : (N : ℕ) (f : ℕ → ℕ) → ((i : ℕ) → i < N + 1 → f i < N) → ((i j : ℕ) → i < j → j < N + 1 → f i ≡ f j → ⊥) → ⊥

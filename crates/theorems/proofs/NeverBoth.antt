@@ -11,6 +11,7 @@ use Rattle.std.proofs.shelf.Tests.{eqb-true, false≢true}
 use Rattle.std.proofs.shelf.Ways.{tells}
 use Rattle.hex.specs.Board.{Board, at, next-to, begins, ends, goes-on, is-way, Connects}
 use Rattle.hex.specs.Promise.{Good, Never-both}
+use Rattle.theorems.proofs.Stones.{Against, either-way}
 use Rattle.theorems.proofs.Ways.{Stone, goes-on-parts, way-parts}
 use Rattle.theorems.proofs.Crossing.{Next, Walk, stop, step, Bottom, Right, crossing}
 
@@ -59,3 +60,8 @@ unfolding Never-both
 never-both b g v w =
     crossing (b .wide) (b .wide) (Of b 1) (Of b 2) (λ a j h. (h .1, h .2)) (λ a j h. (h .1, h .2)) (λ a j p q. omega arith)
     (down-walk b g v .1) (right-walk b g w .1)
+
+-- Never both, for the sides in either order.
+pub never-both-of : (b : Board) (s r : ℕ) → Against s r → Good b → Connects b s → Connects b r → ⊥
+unfolding Never-both
+never-both-of b s r a g = either-way (λ x y. Connects b x → Connects b y → ⊥) s r a (never-both b g) (λ v w. never-both b g w v)

@@ -2,18 +2,19 @@
 use mathlib.Core.Path.{_≡_}
 use mathlib.Core.Bool.{Bool, true, false, cond}
 use mathlib.Core.List.{List, [], _∷_}
-use mathlib.Core.Logic.{⊎-map}
+use mathlib.Core.Logic.{_⊎_, ⊎-elim, ⊎-map, ⊎-swap}
 use Prim.Native.Nat.{ℕ, _+_, _*_, _-_, _/_, _%_, _<_, _≤_}
 use native.Mathlib.Omega.{arith}
 use lib.Dec.{eqb}
 use lib.ListN.{length}
 use Rattle.std.proofs.shelf.Bits.{mul-add-lt, div-mul-add, mod-mul-add}
 use Rattle.std.proofs.shelf.Ways.{tells}
-use Rattle.hex.specs.Board.{Board, at, next-to, begins, ends, goes-on, Connects, empties}
+use Rattle.hex.specs.Board.{Board, at, next-to, begins, ends, goes-on, Connects, empties, other}
 use Rattle.hex.specs.Promise.{Good, Never-neither}
-use Rattle.theorems.proofs.Stones.{empty-counts, good-at}
+use Rattle.theorems.proofs.Stones.{Side, Against, against-other, either-way, empty-counts, good-at}
 use Rattle.theorems.proofs.Ways.{Stone, goes-on-from, way-from}
-use Rattle.theorems.proofs.Line.{Cell, Near, along, On, Led, first, more, Across, one-connects}
+use Rattle.theorems.proofs.Cells.{Cell, Near, along}
+use Rattle.theorems.proofs.Line.{On, Led, first, more, Across, one-connects}
 
 -- the side that the line calls `true`, and the other
 abbrev side : Bool → ℕ
@@ -92,3 +93,13 @@ module _ (b : Board) (g : Good b) (none : empties (b .cells) ≡ 0) where
 pub never-neither : Never-neither
 unfolding Never-neither
 never-neither b g none = ⊎-map (across-way b g none true) (across-way b g none false) (one-connects (b .wide) (b .wide) (colour b g none) (g .0) (g .0))
+
+-- Never neither, for the sides in either order.
+pub never-neither-of : (b : Board) (s r : ℕ) → Against s r → Good b → empties (b .cells) ≡ 0 → Connects b s ⊎ Connects b r
+unfolding Never-neither
+never-neither-of b s r a g none =
+    either-way (λ x y. Connects b x ⊎ Connects b y) s r a (never-neither b g none) (⊎-swap (never-neither b g none))
+
+-- On a full board, who has not connected has lost.
+pub else-other : (b : Board) (s : ℕ) → Good b → Side s → empties (b .cells) ≡ 0 → (Connects b s → ⊥) → Connects b (other s)
+else-other b s g side none not = ⊎-elim (λ w. absurd (not w)) (λ w. w) (never-neither-of b s (other s) (against-other s side) g none)

@@ -1,5 +1,5 @@
 -- Stones on a board: the two sides, one cell changed, and empty cells found and counted.
-use mathlib.Core.Path.{_≡_, refl, _∙_}
+use mathlib.Core.Path.{_≡_, refl, sym, subst₂, _∙_}
 use mathlib.Core.Bool.{true}
 use mathlib.Core.Logic.{_⊎_, inl, inr, ⊎-elim, _≢_}
 use mathlib.Core.List.{List, [], _∷_}
@@ -21,6 +21,28 @@ Side s = (s ≡ 1) ⊎ (s ≡ 2)
 pub other-side : (s : ℕ) → Side s → Side (other s)
 other-side s (inl e) = inr (omega arith)
 other-side s (inr e) = inl (omega arith)
+
+-- r plays against s
+abbrev pub Against : ℕ → ℕ → Type 0
+Against s r = ((s ≡ 1) × (r ≡ 2)) ⊎ ((s ≡ 2) × (r ≡ 1))
+
+-- Against a side plays the other,
+pub is-other : {s r : ℕ} → Against s r → r ≡ other s
+is-other a = omega arith
+
+pub against-other : (s : ℕ) → Side s → Against s (other s)
+against-other s (inl e) = inl (e, omega arith)
+against-other s (inr e) = inr (e, omega arith)
+
+-- and it against the other.
+pub turned-about : {s r : ℕ} → Against s r → Against r s
+turned-about (inl (p, q)) = inr (q, p)
+turned-about (inr (p, q)) = inl (q, p)
+
+-- What holds of sides 1 and 2 and of sides 2 and 1 holds of any two that play against each other.
+pub either-way : (P : ℕ → ℕ → Type 0) (s r : ℕ) → Against s r → P 1 2 → P 2 1 → P s r
+either-way P s r (inl (p, q)) x y = subst₂ P (sym p) (sym q) x
+either-way P s r (inr (p, q)) x y = subst₂ P (sym p) (sym q) y
 
 -- What holds of the changed cell and of every other holds of all: the only place that asks whether a cell is the changed one.
 pub set-each : (P : ℕ → ℕ → Type 0) (l : List ℕ) (i x : ℕ) → i < length l → P i x → ((k : ℕ) → k ≢ i → P k (getD l k 0)) → (k : ℕ) → P k (getD (set l i x) k 0)

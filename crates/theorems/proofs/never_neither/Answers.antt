@@ -1,5 +1,5 @@
-use Rattle.theorems.proofs.NeverNeither.{never-neither}
+use Rattle.theorems.proofs.NeverNeither.{never-neither, else-other}
 use Rattle.theorems.proofs.never_neither.Needs as need
 
 pub returns : need.returns
-returns c = never-neither
+returns c = record { theorem = never-neither; lost = search else-other }

@@ -1,5 +1,5 @@
-use Rattle.theorems.proofs.Mirror.{turned-over}
+use Rattle.theorems.proofs.Mirror.{turned-over, turned-connects}
 use Rattle.theorems.proofs.turned_over.Needs as need
 
 pub returns : need.returns
-returns c = turned-over
+returns c = record { theorem = turned-over; ways = search turned-connects }
