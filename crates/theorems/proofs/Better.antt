@@ -1,17 +1,15 @@
 -- Boards that are better for a side: what it can force on a board, it can force on every better one.
 use mathlib.Core.Path.{_≡_, refl, sym, _∙_}
-use mathlib.Core.Bool.{true}
-use mathlib.Core.Logic.{_⊎_, inl, inr, ⊎-elim, _≢_}
-use mathlib.Core.List.{List, [], _∷_}
-use Prim.Native.Nat.{ℕ, _<_, _-_}
+use mathlib.Core.Logic.{_⊎_, inl, inr}
+use Prim.Native.Nat.{ℕ, _<_}
 use native.Mathlib.Omega.{arith}
-use lib.ListN.{length, getD, set}
+use lib.ListN.{length}
 use Rattle.std.proofs.shelf.Lists.{length-set, getD-set-same, getD-set-other}
-use Rattle.hex.specs.Board.{Board, at, next-to, begins, ends, Connects, empties, put, other}
+use Rattle.hex.specs.Board.{Board, at, Connects, empties, put, other}
 use Rattle.hex.specs.Games.{Forces, has, mine, theirs}
 use Rattle.hex.specs.Promise.{Never-a-loss}
 use Rattle.theorems.proofs.Stones.{Side, Empty-in, set-each, empty-counts, empty-or-full, some-empty}
-use Rattle.theorems.proofs.Ways.{Carries, carried}
+use Rattle.theorems.proofs.Ways.{carried}
 
 -- A cell with y is at least as good for side s as one with x: they are the same, or y is a stone of s, or x one of the other.
 abbrev pub Up : ℕ → ℕ → ℕ → Type 0

@@ -7,7 +7,7 @@ use native.Mathlib.Omega.{arith}
 use lib.ListN.{length, getD}
 use Rattle.std.proofs.shelf.Bits.{mul-lt}
 use Rattle.std.proofs.shelf.Tests.{cases-eq}
-use Rattle.hex.specs.Board.{Board, at, Connects, all-cells, empty, empties, put, other}
+use Rattle.hex.specs.Board.{Board, at, all-cells, empty, empties, put, other}
 use Rattle.hex.specs.Games.{Forces, has, mine, theirs}
 use Rattle.hex.specs.Promise.{Good, good-cells, One-of-both, First-wins, Turned, Turned-over, Never-a-loss}
 use Rattle.theorems.proofs.Stones.{Side, Against, against-other, either-way, is-other, turned-about, one-fewer, good-put}
