@@ -14,10 +14,12 @@ use Rattle.hex.specs.Promise.{Good, across, Turned, Turned-over}
 use Rattle.theorems.proofs.Stones.{Side, other-side, set-each, empty-counts, some-empty, good-at, good-put}
 use Rattle.theorems.proofs.Ways.{carried}
 
+-- What a cell across is, written out.
 across-is : (n i : ℕ) → across n i ≡ (i % n) * n + i / n
 unfolding across
 across-is n i = refl
 
+-- a cell of a board n wide and n tall
 module _ (n i : ℕ) (pos : 0 < n) (h : i < n * n) where
   -- The cell across lies in the row that was the column, and in the column that was the row.
   pub across-row : across n i / n ≡ i % n

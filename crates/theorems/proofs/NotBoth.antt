@@ -26,6 +26,7 @@ data By (r : ℕ) (b : Board) (t : ℕ) : Type 0 where
   by-move : t ≡ r → (i : ℕ) → i < length (b .cells) → at b i ≡ 0 → Forces r (put b r i) (other r) → By r b t
   by-answers : t ≡ other r → 0 < empties (b .cells) → ((i : ℕ) → i < length (b .cells) → at b i ≡ 0 → Forces r (put b (other r) i) r) → By r b t
 
+-- Each way to force is of one of these forms.
 by : (r : ℕ) → {b : Board} {t : ℕ} → Forces r b t → By r b t
 by r (has t w) = by-way w
 by r (mine i h z f) = by-move refl i h z f

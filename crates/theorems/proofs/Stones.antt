@@ -81,6 +81,7 @@ good-at [] k e = omega arith
 good-at (x ∷ l) zero e = grind (arith, tells)
 good-at (x ∷ l) (suc k) e = good-at l k (and-parts (ltb x 3) (good-cells l) e .1)
 
+-- So it stays when one is changed.
 good-set : (l : List ℕ) (i x : ℕ) → x < 3 → good-cells l ≡ true → good-cells (set l i x) ≡ true
 unfolding good-cells
 good-set [] i x h e = e
