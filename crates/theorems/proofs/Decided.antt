@@ -36,7 +36,7 @@ decided-by-move b s r a some each = go (all-or Wins Loses (length (b .cells)) (�
         inr (subst (Forces r b) (sym own) (theirs some (λ i h z. subst (λ x. Forces r (put b x i) r) own (all i h z))))
 
 -- Played to the end: on a full board one side has connected, and before that each move leaves an empty cell fewer.
-decided : (k : ℕ) (b : Board) (s r : ℕ) → Against s r → Good b → empties (b .cells) ≡ k → Forces s b s ⊎ Forces r b s
+pub decided : (k : ℕ) (b : Board) (s r : ℕ) → Against s r → Good b → empties (b .cells) ≡ k → Forces s b s ⊎ Forces r b s
 decided zero b s r a g e = ⊎-elim (λ w. inl (has s w)) (λ w. inr (has s w)) (never-neither-of b s r a g e)
 decided (suc k) b s r a g e =
     decided-by-move b s r a (omega arith)
