@@ -140,6 +140,28 @@ next-mutual n i j =
     same-from-decides {P = next-to n j i ≡ true} (next-to n i j) (next-to n j i)
     (next-symmetric n i j, next-symmetric n j i) ((λ h. h), (λ h. h))
 
+pub beside-symmetric : {n i j : ℕ} → Beside n i j → Beside n j i
+beside-symmetric {n} {i} {j} b = record { from = b .inside; inside = b .from; near = next-symmetric n i j (b .near) }
+
+-- No cell is next to itself.
+pub next-apart : (n i : ℕ) → next-to n i i ≡ false
+next-apart n i = grind (arith, tells)
+
+-- No two of the six steps are one,
+step-once : (k m : ℕ) (down right : ℤ) → step-to k ≡ Some (down, right) → step-to m ≡ Some (down, right) → k ≡ m
+step-once k m down right h g = grind (arith, tells, ints)
+
+-- so no two of the six neighbours of a cell are.
+pub neighbour-once : (n i j k m : ℕ) → neighbour-of n i k ≡ Some j → neighbour-of n i m ≡ Some j → k ≡ m
+neighbour-once n i j k m h g = leads-once (neighbour-leads n i k j h .2) (neighbour-leads n i m j g .2)
+  where
+    leads-once : Leads k (i / n) (i % n) (j / n) (j % n) → Leads m (i / n) (i % n) (j / n) (j % n) → k ≡ m
+    leads-once (down, right, (s, p, q)) (down′, right′, (t, u, v)) =
+        let d : down ≡ down′ = omega (arith, ints) in
+        let e : right ≡ right′ = omega (arith, ints) in
+        let f : step-to k ≡ Some (down′, right′) = cc in
+        step-once k m down′ right′ f t
+
 -- The bits of the borders that a cell touches: there are two, the first tells whether it is at the first border, the second whether
 -- it is at the last.
 pub touch-few : (n s i : ℕ) → touch n s i < 4
