@@ -1,0 +1,4 @@
+pub mod Numbers
+pub mod Bytes
+pub mod Reading
+pub mod Formal
