@@ -54,4 +54,4 @@ Reads bs (Err why) = (p : ℕ) × (why ≡ Unreadable p) × Ceases bs p
 -- an answer is read exactly if the bytes are those of one
 abbrev pub Understood : List ℕ → Option Answer → Type 0
 Understood bs (Some a) = Sound a × (answer-bytes a ≡ bs)
-Understood bs None = (a : Answer) → Sound a → answer-bytes a ≡ bs → ⊥
+Understood bs None = (a : Answer) → answer-bytes a ≡ bs → ⊥

@@ -1,6 +1,7 @@
 // Why a call, or opening, is refused.
 ghost use mathlib.Core.Path.{_≡_};
 ghost use Prim.Native.Nat.{ℕ};
+ghost use Rattle.std.specs.Options.{Cases};
 ghost use Rattle.wire.specs.Numbers.{reason};
 
 #[derive(Clone, Copy, PartialEq, Eq, Debug)]
@@ -43,6 +44,22 @@ impl Refusal {
             Refusal::SmallMemory => 1,
             Refusal::NoCell | Refusal::BadSize | Refusal::Over | Refusal::Taken | Refusal::NoMove =>
                 0,
+        }
+    }
+
+    // The refusal of this number and place, where there is one.
+    pub fn of(number: u16, place: u16) -> Option<Refusal>
+        ensures { λ r. ⌜ Cases r ((x : Refusal) → reason x .number ≡ number → reason x .place ≡ place → ⊥) (λ x. (reason x .number ≡ number) × (reason x .place ≡ place)) ⌝ }
+    {
+        match (number, place) {
+            (1, byte) => Some(Refusal::Unreadable(byte)),
+            (2, 0) => Some(Refusal::NoCell),
+            (3, 0) => Some(Refusal::BadSize),
+            (3, 1) => Some(Refusal::SmallMemory),
+            (4, 0) => Some(Refusal::Over),
+            (5, 0) => Some(Refusal::Taken),
+            (6, 0) => Some(Refusal::NoMove),
+            _ => None,
         }
     }
 }
