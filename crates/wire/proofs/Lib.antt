@@ -1,3 +1,4 @@
 pub mod Words
 pub mod Calls
 pub mod Replies
+pub mod Rows

@@ -4,6 +4,7 @@ use mathlib.Core.List.{List, [], _∷_}
 use Prim.Native.Nat.{ℕ, _+_, _*_, _%_, _^_, _<_}
 use lib.ListN.{length}
 use Rattle.hex.specs.Sides as sides
+use Rattle.hex.specs.declared.side.Side.{Side}
 use Rattle.wire.specs.declared.answer.Answer.{Answer}
 use Rattle.wire.specs.declared.answer.Answer.the-variants.{Refused, Number, Way, Yes, No, TooMany}
 use Rattle.wire.specs.declared.call.Call.{Call}
@@ -42,10 +43,14 @@ call-numbers Back = record { number = 1; values = [] }
 call-numbers Who = record { number = 2; values = [] }
 call-numbers CanForce = record { number = 3; values = [] }
 
+-- a way of a side: so many cells, and the cells
+abbrev pub way-numbers : Side → ℕ → List ℕ → Numbered
+way-numbers side count ws = record { number = 2; values = sides.number side ∷ (count ∷ ws) }
+
 abbrev pub answer-numbers : Answer → Numbered
 answer-numbers (Refused why) = record { number = 0; values = reason why .number ∷ (reason why .place ∷ []) }
 answer-numbers (Number n) = record { number = 1; values = n ∷ [] }
-answer-numbers (Way side cells) = record { number = 2; values = sides.number side ∷ (length (words (cells .now)) ∷ words (cells .now)) }
+answer-numbers (Way side cells) = way-numbers side (length (words (cells .now))) (words (cells .now))
 answer-numbers (Yes next) = record { number = 3; values = next ∷ [] }
 answer-numbers No = record { number = 4; values = [] }
 answer-numbers TooMany = record { number = 5; values = [] }

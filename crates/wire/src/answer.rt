@@ -2,10 +2,15 @@
 ghost use mathlib.Core.Path.{_≡_};
 ghost use mathlib.Core.List.{_∷_, _++_};
 ghost use Prim.Native.Nat.{ℕ};
+ghost use lib.ListN.{length};
 ghost use Rattle.hex.specs.Sides as sides;
 ghost use Rattle.std.specs.Options.{Cases};
-ghost use Rattle.wire.specs.Bytes.{two};
+ghost use Rattle.std.specs.Slices.{found};
+ghost use Rattle.wire.specs.Bytes.{two, way-head, Written, Wrote, Headed};
+ghost use Rattle.wire.specs.Numbers.{words, Row};
+ghost use Rattle.wire.specs.declared.answer.Answer.the-variants.{Way};
 ghost use Rattle.wire.specs.Reading.{Understood};
+use crate::front::put;
 use crate::refusal::Refusal;
 use hex::Side;
 
@@ -31,6 +36,68 @@ pub enum Unwritten {
     NotCells,
 }
 
+// The answer's bytes at the front, and how many they are.
+pub fn write_answer(answer: Answer, out: &mut [u8]) -> Result<usize, Unwritten>
+    ensures { λ r. ⌜ Wrote (answer .entry) (now (out .entry)) (now (out .exit)) r ⌝ }
+{
+    match answer {
+        Answer::Refused(why) => {
+            let [a, b] = why.number().to_le_bytes();
+            let [c, d] = why.place().to_le_bytes();
+            put(&[0, a, b, c, d], out).ok_or(Unwritten::Short)
+        }
+        Answer::Number(number) => {
+            let [low, high] = number.to_le_bytes();
+            put(&[1, low, high], out).ok_or(Unwritten::Short)
+        }
+        Answer::Way(side, cells) => write_way(side, cells, out),
+        Answer::Yes(next) => {
+            let [low, high] = next.to_le_bytes();
+            put(&[3, low, high], out).ok_or(Unwritten::Short)
+        }
+        Answer::No => put(&[4], out).ok_or(Unwritten::Short),
+        Answer::TooMany => put(&[5], out).ok_or(Unwritten::Short),
+    }
+}
+
+fn write_way(side: Side, cells: &[u8], out: &mut [u8]) -> Result<usize, Unwritten>
+    ensures { λ r. ⌜ Wrote (Way side (cells .entry)) (now (out .entry)) (now (out .exit)) r ⌝ }
+{
+    let Some(count) = count_cells(cells) else {
+        return Err(Unwritten::NotCells);
+    };
+    let size = 5 + cells.len();
+    if out.len() < size {
+        return Err(Unwritten::Short);
+    }
+    let _ = write_way_head(side, count, out);
+    out[5..size].copy_from_slice(cells);
+    Ok(size)
+}
+
+// What comes before the cells of a way, written in front of cells that stand there already.
+pub fn write_way_head(side: Side, count: u16, out: &mut [u8]) -> Option<usize>
+    ensures head { λ r. ⌜ Written (way-head side count) (now (out .entry)) (now (out .exit)) r ⌝ }
+    ensures whole { λ r. ⌜ found r (λ _. Headed side count (now (out .exit))) ⌝ }
+{
+    let [a, b] = u16::from(side.number()).to_le_bytes();
+    let [c, d] = count.to_le_bytes();
+    put(&[2, a, b, c, d], out)
+}
+
+// How many cells the bytes of a way are, if they are cells.
+pub fn count_cells(cells: &[u8]) -> Option<u16>
+    ensures { λ r. ⌜ Cases r ((Row (now (cells .entry)) → ⊥)) (λ n. Row (now (cells .entry)) × (n ≡ length (words (now (cells .entry))))) ⌝ }
+{
+    if cells.len() % 2 != 0 {
+        return None;
+    }
+    let Ok(count) = u16::try_from(cells.len() / 2) else {
+        return None;
+    };
+    Some(count)
+}
+
 // The answer that the bytes are, where they are one. A way is handed on as the part of the bytes that its cells are.
 pub fn read_answer(bytes: &[u8]) -> Option<Answer<'_>>
     ensures { λ r. ⌜ Understood (now (bytes .entry)) r ⌝ }
@@ -38,7 +105,11 @@ pub fn read_answer(bytes: &[u8]) -> Option<Answer<'_>>
     match bytes {
         [0, a, b, c, d] => read_refused(u16::from_le_bytes([*a, *b]), u16::from_le_bytes([*c, *d])),
         [1, a, b] => Some(Answer::Number(u16::from_le_bytes([*a, *b]))),
-        [2, a, b, c, d, cells @ ..] => read_way(u16::from_le_bytes([*a, *b]), u16::from_le_bytes([*c, *d]), cells),
+        [2, a, b, c, d, cells @ ..] => read_way(
+            u16::from_le_bytes([*a, *b]),
+            u16::from_le_bytes([*c, *d]),
+            cells,
+        ),
         [3, a, b] => Some(Answer::Yes(u16::from_le_bytes([*a, *b]))),
         [4] => Some(Answer::No),
         [5] => Some(Answer::TooMany),

@@ -6,6 +6,10 @@ mod refusal;
 
 pub use answer::Answer;
 pub use answer::Unwritten;
+pub use answer::count_cells;
+pub use answer::read_answer;
+pub use answer::write_answer;
+pub use answer::write_way_head;
 pub use call::Call;
 pub use call::read_call;
 pub use call::write_call;
