@@ -15,7 +15,8 @@ use Rattle.wire.specs.declared.answer.Answer.the-variants.{Refused, Number, Wa
 use Rattle.wire.specs.Numbers.{words, Row}
 use Rattle.wire.specs.Bytes.{two, answer-bytes}
 use Rattle.wire.specs.Reading.{Understood}
-use Rattle.wire.proofs.Words.{two-given, same-two, joined-words, length-joined, length-words}
+use Rattle.wire.proofs.Words.{two-given, same-two, length-joined}
+use Rattle.wire.proofs.Rows.{way-bytes}
 
 heads : {x y : ℕ} {xs ys : List ℕ} → x ∷ xs ≡ y ∷ ys → x ≡ y
 heads e = cc
@@ -80,7 +81,4 @@ other-count s k bs none a e = let (side, cells, f) = only-way a _ e in none (way
 -- a way of as many cells as are counted
 pub a-way : (side : Side) (s k : ℕ) (cells : RefT (List ℕ)) → ((i : ℕ) → getD (cells .now) i 0 < 256) → sides.number side ≡ s → k < 65536 → length (cells .now) ≡ 2 * k → Row (cells .now) × (answer-bytes (Way side cells) ≡ 2 ∷ (two s ++ (two k ++ cells .now)))
 a-way side s k cells small is few long =
-    let even : length (cells .now) % 2 ≡ 0 = omega arith in
-    let p : length (words (cells .now)) ≡ k = omega (arith, length-words (cells .now) even) in
-    let q = joined-words (cells .now) small even in
-    (record { even = even; few = omega arith }, rw (p, q, is))
+    (record { even = omega arith; few = omega arith }, rw (sym is) (way-bytes side k cells small long))

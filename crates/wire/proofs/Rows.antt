@@ -17,23 +17,23 @@ use Rattle.std.specs.declared.option.Option.the-variants.{Some, None}
 use Rattle.wire.specs.declared.answer.Answer.the-variants.{Way}
 use Rattle.wire.specs.Numbers.{words, Row}
 use Rattle.wire.specs.Bytes.{two, answer-bytes, way-head, Written, Headed}
-use Rattle.wire.proofs.Words.{joined-words, length-joined, length-words}
+use Rattle.wire.proofs.Words.{joined-words, length-joined, words-long}
 
 -- half as many cells as bytes
 pub row-count : (bs : List ℕ) (n : ℕ) → length bs % 2 ≡ 0 → n ≡ length bs / 2 → n < 65536 → Row bs × (n ≡ length (words bs))
-row-count bs n even is few = let l = length-words bs even in (record { even = even; few = omega arith }, omega arith)
+row-count bs n even is few = let l = words-long bs in (record { even = even; few = omega arith }, omega arith)
 
 -- the bytes of a way are its head and its cells
 pub way-bytes : (side : Side) (count : ℕ) (cells : RefT (List ℕ)) → ((i : ℕ) → getD (cells .now) i 0 < 256) → length (cells .now) ≡ 2 * count → answer-bytes (Way side cells) ≡ way-head side count ++ cells .now
 way-bytes side count cells small long =
     let even : length (cells .now) % 2 ≡ 0 = omega arith in
-    let p : length (words (cells .now)) ≡ count = omega (arith, length-words (cells .now) even) in
+    let p : length (words (cells .now)) ≡ count = omega (arith, words-long (cells .now)) in
     let q = joined-words (cells .now) small even in
     rw (p, q)
 
 -- so many bytes are these
 pub way-long : (side : Side) (cells : RefT (List ℕ)) → Row (cells .now) → length (answer-bytes (Way side cells)) ≡ 5 + length (cells .now)
-way-long side cells row = let l = length-words (cells .now) (row .even) in let j = length-joined (words (cells .now)) in omega arith
+way-long side cells row = let e = row .even in omega (arith, words-long (cells .now), length-joined (words (cells .now)))
 
 -- a part of bytes is bytes
 small-part : (bs : List ℕ) → ((i : ℕ) → getD bs i 0 < 256) → (m n i : ℕ) → getD (take n (drop m bs)) i 0 < 256
@@ -60,7 +60,8 @@ pub way-written : (side : Side) (count : ℕ) (cells : RefT (List ℕ)) (old mid
     Written (answer-bytes (Way side cells)) old (putMid 5 (5 + length (cells .now) - 5) mid part) (Some (5 + length (cells .now)))
 way-written side count cells old mid part small row is room None head copied = absurd (omega (arith, head .0))
 way-written side count cells old mid part small row is room (Some told) head copied =
-    let l = length-words (cells .now) (row .even) in
+    let e = row .even in
+    let l = words-long (cells .now) in
     let long = way-long side cells row in
     let bytes = way-bytes side count cells small (omega arith) in
     let k = 5 + length (cells .now) - 5 in

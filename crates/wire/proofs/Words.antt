@@ -34,15 +34,25 @@ pub length-joined : (ws : List ℕ) → length (joined two ws) ≡ 2 * length ws
 length-joined [] = refl
 length-joined (w ∷ ws) = let r = length-joined ws in omega arith
 
-pub length-words : (bs : List ℕ) → length bs % 2 ≡ 0 → 2 * length (words bs) ≡ length bs
-length-words [] even = refl
-length-words (low ∷ []) even = omega arith
-length-words (low ∷ (high ∷ bs)) even =
-    let r = length-words bs (omega arith) in omega arith
-
 -- an even number of bytes are those of the numbers that they give
 pub joined-words : (bs : List ℕ) → ((i : ℕ) → getD bs i 0 < 256) → length bs % 2 ≡ 0 → joined two (words bs) ≡ bs
 joined-words [] small even = refl
 joined-words (low ∷ []) small even = absurd (omega arith)
 joined-words (low ∷ (high ∷ bs)) small even =
     ap (λ t. t ++ joined two (words bs)) (two-given low high (small 0)) ∙ ap (λ t. low ∷ (high ∷ t)) (joined-words bs (λ i. small (suc (suc i))) (omega arith))
+
+-- half as many numbers as bytes
+pub words-long : (bs : List ℕ) → length (words bs) ≡ length bs / 2
+words-long [] = refl
+words-long (low ∷ []) = omega arith
+words-long (low ∷ (high ∷ bs)) = let r = words-long bs in omega arith
+
+-- a number by its place
+pub word-at : (bs : List ℕ) (k : ℕ) → k < length bs / 2 → getD (words bs) k 0 ≡ getD bs (2 * k) 0 + getD bs (2 * k + 1) 0 * 256
+word-at [] k h = absurd (omega arith)
+word-at (low ∷ []) k h = absurd (omega arith)
+word-at (low ∷ (high ∷ bs)) zero h = refl
+word-at (low ∷ (high ∷ bs)) (suc k) h =
+    let e : 2 * suc k ≡ suc (suc (2 * k)) = omega arith in
+    let f : 2 * suc k + 1 ≡ suc (suc (2 * k + 1)) = omega arith in
+    rw (f, e) (word-at bs k (omega arith))

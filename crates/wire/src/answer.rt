@@ -1,8 +1,8 @@
 // What the desk answers, as values and as bytes.
 ghost use mathlib.Core.Path.{_≡_};
 ghost use mathlib.Core.List.{_∷_, _++_};
-ghost use Prim.Native.Nat.{ℕ};
-ghost use lib.ListN.{length};
+ghost use Prim.Native.Nat.{ℕ, _≤_, _<_};
+ghost use lib.ListN.{length, getD};
 ghost use Rattle.hex.specs.Sides as sides;
 ghost use Rattle.std.specs.Options.{Cases};
 ghost use Rattle.std.specs.Slices.{found};
@@ -96,6 +96,16 @@ pub fn count_cells(cells: &[u8]) -> Option<u16>
         return None;
     };
     Some(count)
+}
+
+// The k-th cell of the bytes of a way, where there is one.
+pub fn cell_at(cells: &[u8], k: usize) -> Option<u16>
+    ensures { λ r. ⌜ Cases r (length (words (now (cells .entry))) ≤ k) (λ cell. (k < length (words (now (cells .entry)))) × (cell ≡ getD (words (now (cells .entry))) k 0)) ⌝ }
+{
+    if k >= cells.len() / 2 {
+        return None;
+    }
+    Some(u16::from_le_bytes([cells[2 * k], cells[2 * k + 1]]))
 }
 
 // The answer that the bytes are, where they are one. A way is handed on as the part of the bytes that its cells are.

@@ -6,6 +6,7 @@ mod refusal;
 
 pub use answer::Answer;
 pub use answer::Unwritten;
+pub use answer::cell_at;
 pub use answer::count_cells;
 pub use answer::read_answer;
 pub use answer::write_answer;
