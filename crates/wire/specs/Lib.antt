@@ -2,3 +2,4 @@ pub mod Numbers
 pub mod Bytes
 pub mod Reading
 pub mod Formal
+pub mod Laws

@@ -2,6 +2,7 @@
 mod answer;
 mod call;
 mod front;
+pub mod laws;
 mod refusal;
 
 pub use answer::Answer;
