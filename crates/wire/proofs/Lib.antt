@@ -1,0 +1,5 @@
+pub mod Words
+pub mod Calls
+pub mod Replies
+pub mod Rows
+pub mod Tellings

@@ -1,0 +1,18 @@
+// Calls and answers, as values and as bytes.
+mod answer;
+mod call;
+mod front;
+pub mod laws;
+mod refusal;
+
+pub use answer::Answer;
+pub use answer::Unwritten;
+pub use answer::cell_at;
+pub use answer::count_cells;
+pub use answer::read_answer;
+pub use answer::write_answer;
+pub use answer::write_way_head;
+pub use call::Call;
+pub use call::read_call;
+pub use call::write_call;
+pub use refusal::Refusal;
