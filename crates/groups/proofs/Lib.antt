@@ -1,1 +1,5 @@
 pub mod Climbs
+pub mod Chains
+pub mod Marks
+pub mod Groups
+pub mod Placing

@@ -24,10 +24,11 @@ wide (suc n) i h = omega arith
 
 -- The cell in row r and column c has them as quotient and rest.
 at-place : (n r c j : ℕ) → (r < n) × (c < n) × (j ≡ r * n + c) → (r ≡ j / n) × (c ≡ j % n) × (j < n * n)
-at-place n r c j h =
-    (sym (ap (λ x. x / n) (h .2) ∙ div-mul-add r n c (h .1)),
-    sym (ap (λ x. x % n) (h .2) ∙ mod-mul-add r n c (h .1)),
-    omega (arith, mul-add-lt r n c n (h .0) (h .1)))
+at-place n r c j h = (
+  sym (ap (λ x. x / n) (h .2) ∙ div-mul-add r n c (h .1)),
+  sym (ap (λ x. x % n) (h .2) ∙ mod-mul-add r n c (h .1)),
+  omega (arith, mul-add-lt r n c n (h .0) (h .1)),
+)
 
 -- What stands in a row and a column of the board has them as quotient and rest, and is on the board.
 on-place : (n : ℕ) (r c : ℤ) (j : ℕ) → cell-on n r c ≡ Some j → (r ≡ pos (j / n)) × (c ≡ pos (j % n)) × (j < n * n)
