@@ -3,15 +3,18 @@ use mathlib.Core.Path.{_≡_, refl, sym, ap, subst, _∙_}
 use mathlib.Core.Bool.{Bool, true, false, _&&_, _||_}
 use Prim.Native.Nat.{ℕ, zero, suc, _+_, _*_, _-_, _/_, _%_, _≤_, _<_}
 use native.Mathlib.Omega.{arith}
-use lib.Dec.{ltb, eqb}
+use lib.Dec.{ltb, eqb, lit<}
 use lib.IntN.{ℤ, pos, negsuc, _+ℤ_}
 use Rattle.std.specs.declared.option.Option.{Option}
 use Rattle.std.specs.declared.option.Option.the-variants.{Some, None}
-use Rattle.std.proofs.shelf.Ways.{tells}
+use Rattle.std.specs.Options.{Cases}
+use Rattle.std.specs.Orderings.{Decides}
+use Rattle.std.proofs.shelf.Ways.{tells, same-from-decides}
+use Rattle.std.proofs.shelf.Tests.{lt-ltb}
 use Rattle.std.proofs.shelf.Signed.{ints}
 use Rattle.std.proofs.shelf.Bits.{div-mul-add, mod-mul-add, mul-add-lt, div-add-mod', div-below, mod-below}
-use Rattle.hex.specs.Board.{pick, next-to, begins, ends}
-use Rattle.hex.specs.Geometry.{cell-on, step-to, toward, neighbour-of, touch}
+use Rattle.hex.specs.Board.{pick, right-of, below, up-right, next-to, begins, ends}
+use Rattle.hex.specs.Geometry.{cell-on, step-to, toward, neighbour-of, Beside, All-neighbours, touch}
 
 -- Nothing is not something.
 none-some : {j : ℕ} → None ≡ Some j → ⊥
@@ -48,3 +51,98 @@ in-place n j h =
     let m = mod-below j n w in
     let e = div-add-mod' j n in
     grind (arith, tells)
+
+-- The step toward the k-th neighbour leads from row a and column b to row c and column d.
+abbrev pub Leads : ℕ → ℕ → ℕ → ℕ → ℕ → Type 0
+Leads k a b c d = (down right : ℤ) × ((step-to k ≡ Some (down, right)) × (pos a +ℤ down ≡ pos c) × (pos b +ℤ right ≡ pos d))
+
+toward-parts : (n r c : ℕ) (o : Option (ℤ × ℤ)) (j : ℕ) → toward n r c o ≡ Some j → (j < n * n)
+    × ((down right : ℤ) × ((o ≡ Some (down, right)) × (pos r +ℤ down ≡ pos (j / n)) × (pos c +ℤ right ≡ pos (j % n))))
+toward-parts n r c None j h = absurd (none-some h)
+toward-parts n r c (Some (down, right)) j h =
+    let q = on-place n (pos r +ℤ down) (pos c +ℤ right) j h in
+    (q .2, (down, right, (refl, q .0, q .1)))
+
+-- The k-th neighbour of a cell is on the board, as is the cell, and the k-th step leads to it.
+neighbour-leads : (n i k j : ℕ) → neighbour-of n i k ≡ Some j → (i < n * n) × (j < n * n) × Leads k (i / n) (i % n) (j / n) (j % n)
+unfolding neighbour-of
+neighbour-leads n i k j h =
+    let p : (i < n * n) × (toward n (i / n) (i % n) (step-to k) ≡ Some j) = grind (arith, tells) in
+    let q = toward-parts n (i / n) (i % n) (step-to k) j (p .1) in
+    (p .0, q .0, q .1)
+
+-- Where the k-th step leads from one cell of the board to another, that is the k-th neighbour.
+leads-neighbour : (n i k j : ℕ) → i < n * n → j < n * n → Leads k (i / n) (i % n) (j / n) (j % n) → neighbour-of n i k ≡ Some j
+unfolding neighbour-of
+leads-neighbour n i k j h g (down, right, (s, p, q)) = simp (lt-ltb i (n * n) h, s, p, q) (in-place n j g)
+
+leads-next : (n i j k : ℕ) → Leads k (i / n) (i % n) (j / n) (j % n) → next-to n i j ≡ true
+leads-next n i j k (down, right, (s, p, q)) = grind (arith, tells, ints)
+
+-- One of six is at hand where one of the tests holds.
+one-of-six : {P : Type 0} (s t u v w x : Bool) → (s ≡ true → P) → (t ≡ true → P) → (u ≡ true → P) → (v ≡ true → P) → (w ≡ true → P)
+    → (x ≡ true → P) → ((s || t) || ((u || v) || (w || x))) ≡ true → P
+one-of-six true t u v w x a b c d e f h = a refl
+one-of-six false true u v w x a b c d e f h = b refl
+one-of-six false false true v w x a b c d e f h = c refl
+one-of-six false false false true w x a b c d e f h = d refl
+one-of-six false false false false true x a b c d e f h = e refl
+one-of-six false false false false false x a b c d e f h = f h
+
+-- Of two cells that are next to each other one of the six steps leads to the other.
+next-leads : (n i j : ℕ) → next-to n i j ≡ true → (k : ℕ) × (k < 6) × Leads k (i / n) (i % n) (j / n) (j % n)
+next-leads n i j =
+    one-of-six (right-of n i j) (right-of n j i) (below n i j) (below n j i) (up-right n i j) (up-right n j i)
+    (λ h. (0, lit< tt, (pos 0, pos 1, grind (arith, tells, ints))))
+    (λ h. (1, lit< tt, (pos 0, negsuc 0, grind (arith, tells, ints))))
+    (λ h. (2, lit< tt, (pos 1, pos 0, grind (arith, tells, ints))))
+    (λ h. (3, lit< tt, (negsuc 0, pos 0, grind (arith, tells, ints))))
+    (λ h. (4, lit< tt, (negsuc 0, pos 1, grind (arith, tells, ints))))
+    (λ h. (5, lit< tt, (pos 1, negsuc 0, grind (arith, tells, ints))))
+
+-- Every neighbour is next to the cell, and both are on the board.
+pub neighbour-beside : (n i k j : ℕ) → neighbour-of n i k ≡ Some j → Beside n i j
+neighbour-beside n i k j h =
+    let l = neighbour-leads n i k j h in
+    record { from = l .0; inside = l .1; near = leads-next n i j k (l .2) }
+
+pub neighbour-cases : (n i k : ℕ) (r : Option ℕ) → r ≡ neighbour-of n i k → Cases r (Unit {0}) (Beside n i)
+neighbour-cases n i k None h = tt
+neighbour-cases n i k (Some j) h = neighbour-beside n i k j (sym h)
+
+pub neighbour-next : (n i k j : ℕ) → neighbour-of n i k ≡ Some j → next-to n i j ≡ true
+neighbour-next n i k j h = neighbour-beside n i k j h .near
+
+pub neighbour-inside : (n i k j : ℕ) → neighbour-of n i k ≡ Some j → (i < n * n) × (j < n * n)
+neighbour-inside n i k j h = let b = neighbour-beside n i k j h in (b .from, b .inside)
+
+-- Every cell that is next to a cell is one of its six neighbours.
+pub neighbour-all : (n i j : ℕ) → i < n * n → j < n * n → next-to n i j ≡ true → (k : ℕ) × (k < 6) × (neighbour-of n i k ≡ Some j)
+neighbour-all n i j h g e = let l = next-leads n i j e in (l .0, l .1, leads-neighbour n i (l .0) j h g (l .2))
+
+pub all-neighbours : All-neighbours
+unfolding All-neighbours
+all-neighbours n i j b = neighbour-all n i j (b .from) (b .inside) (b .near)
+
+-- Two cells are next to each other, whichever is named first.
+pub next-symmetric : (n i j : ℕ) → next-to n i j ≡ true → next-to n j i ≡ true
+next-symmetric n i j h = grind (arith, tells)
+
+pub next-mutual : (n i j : ℕ) → next-to n i j ≡ next-to n j i
+next-mutual n i j =
+    same-from-decides {P = next-to n j i ≡ true} (next-to n i j) (next-to n j i)
+    (next-symmetric n i j, next-symmetric n j i) ((λ h. h), (λ h. h))
+
+-- The bits of the borders that a cell touches: there are two, the first tells whether it is at the first border, the second whether
+-- it is at the last.
+pub touch-few : (n s i : ℕ) → touch n s i < 4
+unfolding touch
+touch-few n s i = grind (arith, tells)
+
+pub touch-first : (n s i : ℕ) → Decides (begins n s i) (touch n s i % 2 ≡ 1)
+unfolding touch
+touch-first n s i = grind (arith, tells)
+
+pub touch-last : (n s i : ℕ) → Decides (ends n s i) (touch n s i / 2 ≡ 1)
+unfolding touch
+touch-last n s i = grind (arith, tells)

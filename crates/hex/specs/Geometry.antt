@@ -1,12 +1,13 @@
 -- The six neighbours of a cell and the borders it touches, as functions that code can follow step by step.
+use mathlib.Core.Path.{_≡_}
 use mathlib.Core.Bool.{Bool, true, false, _&&_}
 use mathlib.Core.List.{List}
-use Prim.Native.Nat.{ℕ, zero, suc, _+_, _*_, _-_, _/_, _%_}
+use Prim.Native.Nat.{ℕ, zero, suc, _+_, _*_, _-_, _/_, _%_, _<_}
 use lib.Dec.{ltb, eqb}
 use lib.IntN.{ℤ, pos, negsuc, _+ℤ_}
 use Rattle.std.specs.declared.option.Option.{Option}
 use Rattle.std.specs.declared.option.Option.the-variants.{Some, None}
-use Rattle.hex.specs.Board.{pick, Board, begins, ends}
+use Rattle.hex.specs.Board.{pick, Board, next-to, begins, ends}
 
 -- the cell in row r and column c of a board n wide and n tall, where it has one; a step can lead before the first row or column
 abbrev pub cell-on : ℕ → ℤ → ℤ → Option ℕ
@@ -34,6 +35,16 @@ toward n r c (Some (down, right)) = cell-on n (pos r +ℤ down) (pos c +ℤ righ
 -- the k-th neighbour of cell i. None where the board ends there, for a cell that is not on the board, and from k = 6 on
 unfoldable pub neighbour-of : ℕ → ℕ → ℕ → Option ℕ
 neighbour-of n i k = pick (ltb i (n * n)) (toward n (i / n) (i % n) (step-to k)) None
+
+-- cell j is on the board next to cell i
+pub record Beside (n i j : ℕ) : Type 0 where
+  pub from : i < n * n
+  pub inside : j < n * n
+  pub near : next-to n i j ≡ true
+
+-- Each cell that is next to a cell is one of its six neighbours, on boards of every size.
+unfoldable pub All-neighbours : Type 0
+All-neighbours = (n i j : ℕ) → Beside n i j → (k : ℕ) × (k < 6) × (neighbour-of n i k ≡ Some j)
 
 -- the borders of side s that cell i touches, as two bits: 1 for its first, 2 for its last
 unfoldable pub touch : ℕ → ℕ → ℕ → ℕ

@@ -5,5 +5,6 @@ mod size;
 
 pub use geometry::borders;
 pub use geometry::neighbour;
+pub use geometry::neighbours_are_all;
 pub use side::Side;
 pub use size::Size;
