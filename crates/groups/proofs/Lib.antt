@@ -3,3 +3,5 @@ pub mod Chains
 pub mod Marks
 pub mod Groups
 pub mod Placing
+pub mod Spanning
+pub mod Ways
