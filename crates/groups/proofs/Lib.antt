@@ -5,3 +5,4 @@ pub mod Groups
 pub mod Placing
 pub mod Spanning
 pub mod Ways
+pub mod Lifting

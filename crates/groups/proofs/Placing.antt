@@ -15,7 +15,7 @@ use Rattle.hex.specs.Board.{pick, Board, at, put}
 use Rattle.hex.specs.Rows.{Chain, here, step, Stone}
 use Rattle.groups.specs.Forest.{Forest, parent, root, join, take-in, adopt, alone}
 use Rattle.groups.proofs.Chains.{last-own, carried}
-use Rattle.groups.proofs.Climbs.{climb-root}
+use Rattle.groups.proofs.Climbs.{Rooted, climb-root}
 use Rattle.groups.proofs.Marks.{Has}
 use Rattle.groups.proofs.Groups.{Groups, now-met, join-meets}
 
@@ -168,6 +168,10 @@ module _ (b : Board) (s x : ℕ) (side : s ≢ 0) (on : x < length (b .cells)) (
       unfolding adopt
       growing zero = (now-met alone-groups (λ i j. ⊎-elim (g .meets i j) (λ a. omega (arith, a .1))), g .lone x free .0)
       growing (suc m) = one-more m _ (next m) refl (growing m)
+
+      -- At no time is there a way up that does not end.
+      pub growing-ends : (m : ℕ) → Rooted (adopt b s x next m (alone x (bits s x) f) .parents)
+      growing-ends m = growing m .0 .ends
 
       module _ (m : ℕ) (all : (y : ℕ) → y < length (b .cells) → near x y ≡ true → (k : ℕ) × (k < m) × (next k ≡ Some y)) where
         abbrev after : Forest

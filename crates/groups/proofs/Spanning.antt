@@ -49,15 +49,16 @@ module _ {near : ℕ → ℕ → Bool} (both-ways : (i j : ℕ) → near i j ≡
 
   -- A side spans just if some group of it has both bits.
   pub spans : (t : ℕ) → t ≢ 0 → Just-if (Spanning near bits b t) (Spans b t f)
-  spans t n =
-      (λ p.
-          record {
-            top = root (f .parents) (p .from);
-            stone = last-own near (g .hangs t (p .from) n (first-own near (p .row)));
-            is-root = root-top (f .parents) (g .ends) (p .from);
-            touches = both-at t n p;
-          },
-      λ q. spanning-at t (q .top) n (q .stone) (q .touches))
+  spans t n = (
+    λ p.
+        record {
+          top = root (f .parents) (p .from);
+          stone = last-own near (g .hangs t (p .from) n (first-own near (p .row)));
+          is-root = root-top (f .parents) (g .ends) (p .from);
+          touches = both-at t n p;
+        },
+    λ q. spanning-at t (q .top) n (q .stone) (q .touches),
+  )
 
 -- A stone of side s has come to the empty cell x.
 module _ {near : ℕ → ℕ → Bool} (both-ways : (i j : ℕ) → near i j ≡ true → near j i ≡ true) {bits : ℕ → ℕ → ℕ} (b : Board) (s x : ℕ) (side : s ≢ 0)
@@ -87,10 +88,11 @@ module _ {near : ℕ → ℕ → Bool} (both-ways : (i j : ℕ) → near i j ≡
 
     -- If side s did not span before, it does now just if the new stone's byte has both bits.
     pub byte-decides : (Spanning near bits b s → ⊥) → Just-if (Spanning near bits (put b s x) s) (Both (getD (f .borders) x 0))
-    byte-decides not-yet =
-        (λ p.
-            ⊎-elim
-            (λ e. subst (λ q. Both (getD (f .borders) q 0)) e (both-at both-ways g s side p))
-            (λ d. absurd (not-yet (record { from = p .from; to = p .to; row = row-before (p .row) d; first = p .first; last = p .last })))
-            (cases-eq (root (f .parents) (p .from)) x),
-        spanning-at both-ways g s x side (placed b s x side on free))
+    byte-decides not-yet = (
+      λ p.
+          ⊎-elim
+          (λ e. subst (λ q. Both (getD (f .borders) q 0)) e (both-at both-ways g s side p))
+          (λ d. absurd (not-yet (record { from = p .from; to = p .to; row = row-before (p .row) d; first = p .first; last = p .last })))
+          (cases-eq (root (f .parents) (p .from)) x),
+      spanning-at both-ways g s x side (placed b s x side on free),
+    )
