@@ -6,3 +6,5 @@ pub mod Placing
 pub mod Spanning
 pub mod Ways
 pub mod Lifting
+pub mod Positions
+pub mod Theorems
