@@ -1,3 +1,4 @@
+pub mod Bytes
 pub mod Climbs
 pub mod Chains
 pub mod Marks
