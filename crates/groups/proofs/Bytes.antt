@@ -54,11 +54,11 @@ write-past bs i v l = set-past (words bs) i v (word-past bs i l)
 pub bytes-told : Bytes-told
 bytes-told k xs ys lx ly bx by e =
     ext-getD 0 xs ys (lx ∙ sym ly) (λ j l.
-        let p = pair (j / 2) (omega arith) in
-        ⊎-elim
-        (λ even. let at : j ≡ j / 2 * 2 = omega arith in rw at (p .0))
-        (λ odd. let at : j ≡ j / 2 * 2 + 1 = omega arith in rw at (p .1))
-        (cases-eq (j % 2) 0))
+    let p = pair (j / 2) (omega arith) in
+    ⊎-elim
+    (λ even. let at : j ≡ j / 2 * 2 = omega arith in rw at (p .0))
+    (λ odd. let at : j ≡ j / 2 * 2 + 1 = omega arith in rw at (p .1))
+    (cases-eq (j % 2) 0))
   where
     pair : (i : ℕ) → i < k → (getD xs (i * 2) 0 ≡ getD ys (i * 2) 0) × (getD xs (i * 2 + 1) 0 ≡ getD ys (i * 2 + 1) 0)
     pair i l =
