@@ -1,7 +1,7 @@
 -- Memory without stones: each cell its own parent, and no bits.
 use mathlib.Core.Path.{_≡_, refl, sym, ap, _∙_}
 use mathlib.Core.Logic.{_≢_, ⊎-elim}
-use mathlib.Core.List.{List}
+use mathlib.Core.List.{List, []}
 use Prim.Native.Nat.{ℕ, suc, _+_, _*_, _≤_, _<_}
 use native.Mathlib.Omega.{arith}
 use lib.ListN.{length, getD, set}
@@ -10,7 +10,7 @@ use Rattle.std.proofs.shelf.Tests.{cases-eq, cases-lt}
 use Rattle.hex.specs.Board.{all-cells}
 use Rattle.groups.specs.Words.{words}
 use Rattle.groups.specs.Forest.{held, parent}
-use Rattle.groups.specs.Moves.{count-from, bare}
+use Rattle.groups.specs.Moves.{count-from, bare, played, Kept}
 use Rattle.groups.proofs.Bytes.{words-length}
 use Rattle.groups.proofs.Positions.{bare-parent, count-length, empty-at, empty-length}
 
@@ -32,7 +32,7 @@ cleared-more k ps bs h i l =
     (cases-eq i k)
 
 -- When all are cleared there are no stones.
-pub cleared-all : (k m : ℕ) (mem bs : List ℕ) → length mem ≡ k * 2 → length bs ≡ k → k ≤ m → Cleared m (words mem) bs → held mem bs ≡ bare k
+cleared-all : (k m : ℕ) (mem bs : List ℕ) → length mem ≡ k * 2 → length bs ≡ k → k ≤ m → Cleared m (words mem) bs → held mem bs ≡ bare k
 cleared-all k m mem bs lp lb far h = λ i. record { parents = parents i; borders = borders i }
   where
     parents : words mem ≡ count-from 0 k
@@ -52,3 +52,7 @@ cleared-all k m mem bs lp lb far h = λ i. record { parents = parents i; borders
         getD-default bs i d 0 l
         ∙ h i (omega arith) .1
         ∙ sym (getD-default (all-cells k) i d 0 (omega (arith, empty-length k)) ∙ empty-at k i))
+
+pub cleared-kept : (n m : ℕ) (mem bs : List ℕ) → length mem ≡ n * n * 2 → length bs ≡ n * n → n * n ≤ m → Cleared m (words mem) bs → Kept n [] mem bs
+unfolding played
+cleared-kept n m mem bs lp lb far h = cleared-all (n * n) m mem bs lp lb far h

@@ -37,6 +37,16 @@ pub adopt-more : (b : Board) (s x : ℕ) (next : ℕ → Option ℕ) (k : ℕ) (
 unfolding adopt
 adopt-more b s x next k f h new e t = rw add-one (t ∙ ap (take-in b s x (next k)) e)
 
+-- Only what lies next to x is looked at: boards that are the same there are the same to it.
+pub adopt-alike : (b c : Board) (s x : ℕ) (next : ℕ → Option ℕ) → ((k y : ℕ) → next k ≡ Some y → at b y ≡ at c y) → (m : ℕ) (f : Forest) → adopt b s x next m f ≡ adopt c s x next m f
+unfolding adopt
+adopt-alike b c s x next same zero f = refl
+adopt-alike b c s x next same (suc m) f = look (next m) refl ∙ ap (take-in c s x (next m)) (adopt-alike b c s x next same m f)
+  where
+    look : (o : Option ℕ) → next m ≡ o → take-in b s x o (adopt b s x next m f) ≡ take-in c s x o (adopt b s x next m f)
+    look None e = refl
+    look (Some y) e = ap (λ v. pick (eqb v s) (join (root (adopt b s x next m f .parents) y) x (adopt b s x next m f)) (adopt b s x next m f)) (same m y e)
+
 -- What an option holds it holds once, and nothing is not something.
 some-once : {i j : ℕ} → Some i ≡ Some j → i ≡ j
 some-once e = cc

@@ -8,7 +8,7 @@ use native.Mathlib.Nat.{zero-add}
 use native.Mathlib.Omega.{arith}
 use lib.Dec.{ltb, eqb}
 use lib.ListN.{length, getD, set}
-use Rattle.std.proofs.shelf.Lists.{length-set}
+use Rattle.std.proofs.shelf.Lists.{length-set, getD-set-other}
 use Rattle.std.proofs.shelf.Tests.{and-parts, and-from}
 use Rattle.std.proofs.shelf.Ways.{tells}
 use Rattle.hex.specs.Board.{Board, at, all-cells, empty, put, other, next-to}
@@ -19,7 +19,7 @@ use Rattle.hex.proofs.Neighbours.{neighbour-next, neighbour-all, next-symmetric
 use Rattle.groups.specs.Forest.{Forest, parent, place, lift}
 use Rattle.groups.specs.Moves.{Position, count-from, bare, start, moved, played, is-free, is-fair, position-of, board-of, turn-of, forest-of, Legal}
 use Rattle.groups.proofs.Climbs.{climb-root}
-use Rattle.groups.proofs.Placing.{Grouped, placed-top, placed-groups, growing-ends}
+use Rattle.groups.proofs.Placing.{Grouped, adopt-alike, placed-top, placed-groups, growing-ends}
 use Rattle.groups.proofs.Lifting.{lifted}
 
 -- the forest holds the groups of the board
@@ -39,6 +39,11 @@ no-empty s h = grind arith
 -- The sides take turns.
 pub other-side : (s : ℕ) → (s ≡ 1) ⊎ (s ≡ 2) → (other s ≡ 1) ⊎ (other s ≡ 2)
 other-side s = ⊎-elim (λ e. inr (omega arith)) (λ e. inl (omega arith))
+
+-- What holds of a side and of the other holds of both sides.
+pub of-both : (P : ℕ → Type 0) (s : ℕ) → (s ≡ 1) ⊎ (s ≡ 2) → P s → P (other s) → P 1 × P 2
+of-both P s (inl e) p q = (subst P e p, subst P (ap other e) q)
+of-both P s (inr e) p q = (subst P (ap other e) q, subst P e p)
 
 -- A free cell is on the board and empty.
 pub free-parts : (b : Board) (x : ℕ) → is-free b x ≡ true → (x < length (b .cells)) × (at b x ≡ 0)
@@ -147,6 +152,15 @@ unfolding played is-fair
 fair-push p [] x = and-true (is-free (p .board) x)
 fair-push p (m ∷ ms) x = ap (λ c. is-free (p .board) m && c) (fair-push (moved p m) ms x) ∙ sym (and-assoc (is-free (p .board) m) _ _)
 
+-- No moves are legal, and leave the board empty.
+pub legal-none : (n : ℕ) → Legal n []
+unfolding is-fair
+legal-none n = refl
+
+pub nothing-first : (n i : ℕ) → at (board-of n []) i ≡ 0
+unfolding played
+nothing-first n i = empty-at (n * n) i
+
 -- Of the moves from the empty board: the position is sound, and the last goes to a free cell of the one before.
 pub legal-sound : (n : ℕ) (ms : List ℕ) → Legal n ms → Sound (position-of n ms)
 legal-sound n ms h = played-sound (start n) ms (start-sound n) h
@@ -165,6 +179,29 @@ played-wide p (x ∷ ms) = played-wide (moved p x) ms
 
 pub board-cells : (n : ℕ) (ms : List ℕ) → Legal n ms → length (board-of n ms .cells) ≡ n * n
 board-cells n ms h = legal-sound n ms h .square ∙ ap (λ w. w * w) (played-wide (start n) ms)
+
+-- One move more: the board has its stone, the other side is to move, and its groups have joined.
+pub board-push : (n : ℕ) (ms : List ℕ) (x : ℕ) → board-of n (ms ++ (x ∷ [])) ≡ put (board-of n ms) (turn-of n ms) x
+board-push n ms x = ap (λ p. p .board) (played-push (start n) ms x)
+
+pub turn-push : (n : ℕ) (ms : List ℕ) (x : ℕ) → turn-of n (ms ++ (x ∷ [])) ≡ other (turn-of n ms)
+turn-push n ms x = ap (λ p. p .turn) (played-push (start n) ms x)
+
+pub forest-push : (n : ℕ) (ms : List ℕ) (x : ℕ) → forest-of n (ms ++ (x ∷ [])) ≡ place (board-of n ms) (turn-of n ms) x (forest-of n ms)
+forest-push n ms x = ap (λ p. p .forest) (played-push (start n) ms x)
+
+-- No cell is next to itself.
+not-itself : (n i : ℕ) → next-to n i i ≡ true → ⊥
+not-itself n i h = grind (arith, tells)
+
+-- What stands on x does not matter to the groups that join there.
+pub place-alike : (b : Board) (s t x : ℕ) (f : Forest) → place (put b t x) s x f ≡ place b s x f
+place-alike b s t x f =
+    adopt-alike (put b t x) b s x (neighbour-of (b .wide) x)
+    (λ k y e.
+    let other : y ≢ x = λ same. not-itself (b .wide) x (subst (λ z. next-to (b .wide) x z ≡ true) same (neighbour-next (b .wide) x k y e)) in
+    getD-set-other (b .cells) x y t 0 other)
+    6 _
 
 -- Cells that are those of the board that the moves lead to lie on that board.
 pub board-laid : (n : ℕ) (ms cells : List ℕ) → cells ≡ board-of n ms .cells → laid n cells ≡ board-of n ms

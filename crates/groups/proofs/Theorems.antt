@@ -13,12 +13,12 @@ use Rattle.hex.specs.Board.{Board, at, put, other, Connects, next-to}
 use Rattle.hex.specs.Geometry.{touch, laid}
 use Rattle.hex.specs.Rows.{Stone, Row}
 use Rattle.hex.proofs.Neighbours.{next-symmetric}
-use Rattle.groups.specs.Forest.{Forest, root, place, lift}
-use Rattle.groups.specs.Moves.{Position, start, moved, is-free, position-of, board-of, turn-of, forest-of, Legal}
+use Rattle.groups.specs.Forest.{Forest, held, root, place, lift}
+use Rattle.groups.specs.Moves.{Position, start, moved, is-free, position-of, board-of, turn-of, forest-of, Legal, Kept, Held-around}
 use Rattle.groups.specs.Meaning.{Just-if, Both, Together, Spans, Joined, Open, One-byte-decides, Back-again}
 use Rattle.groups.proofs.Spanning.{Spanning, same-root, spans, byte-decides, other-as-before}
 use Rattle.groups.proofs.Ways.{connects}
-use Rattle.groups.proofs.Positions.{Sound, no-empty, other-side, free-parts, moved-top, moved-sound, moved-back, played-push, legal-sound, legal-last, board-cells, board-laid}
+use Rattle.groups.proofs.Positions.{Sound, no-empty, other-side, of-both, legal-none, nothing-first, free-parts, moved-top, moved-sound, moved-back, played-push, legal-sound, legal-last, board-cells, board-laid, board-push, forest-push, place-alike}
 
 -- One statement follows from another just if those that they stand for do.
 just-if : {P Q R : Type 0} → Just-if P Q → Just-if Q R → Just-if P R
@@ -87,12 +87,32 @@ byte-tells n ms x bs r legal not-yet is e =
     let same : getD bs x 0 ≡ getD (forest-of n (ms ++ (x ∷ [])) .borders) x 0 = ap (λ l. getD l x 0) is in
     decides-like r (λ both. told .1 (ap (λ v. v % 4) (sym same) ∙ both)) (λ c. ap (λ v. v % 4) same ∙ told .0 c) (decides-at r _ e (decides-eqb (getD bs x 0 % 4) 3))
 
--- A forest in memory that is that of the moves is that of the moves with one more after a stone has come,
-pub memory-grows : (n : ℕ) (ms cells : List ℕ) (s x : ℕ) (f h : Forest) → h ≡ place (laid n cells) s x f → cells ≡ board-of n ms .cells → s ≡ turn-of n ms → f ≡ forest-of n ms →
+-- The groups that join a stone are the same whether the cells hold it yet or not.
+pub joins-either : (n : ℕ) (ms cells : List ℕ) (x : ℕ) (f : Forest) → Held-around n ms x cells → place (laid n cells) (turn-of n ms) x f ≡ place (board-of n ms) (turn-of n ms) x f
+joins-either n ms cells x f (inl before) = ap (λ b. place b (turn-of n ms) x f) (board-laid n ms cells before)
+joins-either n ms cells x f (inr after) =
+    ap (λ b. place b (turn-of n ms) x f) (board-laid n (ms ++ (x ∷ [])) cells after ∙ board-push n ms x) ∙ place-alike (board-of n ms) (turn-of n ms) (turn-of n ms) x f
+
+-- Memory that keeps the groups of the moves keeps those of the moves with one more after a stone has come,
+pub memory-grows : (n : ℕ) (ms cells ps bs : List ℕ) (s x : ℕ) (h : Forest) → h ≡ place (laid n cells) s x (held ps bs) → Held-around n ms x cells → s ≡ turn-of n ms → Kept n ms ps bs →
     h ≡ forest-of n (ms ++ (x ∷ []))
-memory-grows n ms cells s x f h e is turn was =
-    e ∙ (λ i. place (board-laid n ms cells is i) (turn i) x (was i)) ∙ sym (ap (λ q. q .forest) (played-push (start n) ms x))
+memory-grows n ms cells ps bs s x h e around turn kept =
+    e ∙ (λ i. place (laid n cells) (turn i) x (kept i)) ∙ joins-either n ms cells x (forest-of n ms) around ∙ sym (forest-push n ms x)
 
 -- and that of the moves without the last after its stone has been taken out.
-pub memory-back : (n : ℕ) (ms : List ℕ) (x : ℕ) (f h : Forest) → h ≡ lift (n * n) x f → Legal n (ms ++ (x ∷ [])) → f ≡ forest-of n (ms ++ (x ∷ [])) → h ≡ forest-of n ms
-memory-back n ms x f h e legal was = e ∙ ap (lift (n * n) x) was ∙ back-again n ms x legal
+pub memory-back : (n : ℕ) (ms ps bs : List ℕ) (x : ℕ) (h : Forest) → h ≡ lift (n * n) x (held ps bs) → Legal n (ms ++ (x ∷ [])) → Kept n (ms ++ (x ∷ [])) ps bs → h ≡ forest-of n ms
+memory-back n ms ps bs x h e legal kept = e ∙ ap (lift (n * n) x) kept ∙ back-again n ms x legal
+
+-- On the board without stones nobody has connected,
+pub open-first : (n : ℕ) → Open (board-of n [])
+open-first n = (never 1 (no-empty 1 (inl refl)), never 2 (no-empty 2 (inr refl)))
+  where
+    never : (s : ℕ) → s ≢ 0 → Connects (board-of n []) s → ⊥
+    never s side c = let q = joined n [] s (legal-none n) side .0 c in side (sym (q .stone .1) ∙ nothing-first n (q .top))
+
+-- and as long as the last stone's byte has not both bits nobody has.
+pub open-still : (n : ℕ) (ms : List ℕ) (x : ℕ) → Legal n (ms ++ (x ∷ [])) → Open (board-of n ms) → (Both (getD (forest-of n (ms ++ (x ∷ [])) .borders) x 0) → ⊥) → Open (board-of n (ms ++ (x ∷ [])))
+open-still n ms x legal not-yet isnt =
+    let (told, rest) = one-byte-decides n ms x legal not-yet in
+    let ok = legal-sound n ms (legal-last n ms x legal .0) in
+    of-both (λ t. Connects (board-of n (ms ++ (x ∷ []))) t → ⊥) (turn-of n ms) (ok .side) (λ c. isnt (told .0 c)) rest

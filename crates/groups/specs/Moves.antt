@@ -1,12 +1,13 @@
 -- Boards and groups as functions of the list of moves, from the empty board, side 1 moving first.
 use mathlib.Core.Path.{_≡_}
 use mathlib.Core.Bool.{Bool, true, _&&_}
-use mathlib.Core.List.{List, [], _∷_}
+use mathlib.Core.Logic.{_⊎_}
+use mathlib.Core.List.{List, [], _∷_, _++_}
 use Prim.Native.Nat.{ℕ, zero, suc, _*_}
 use lib.Dec.{ltb, eqb}
 use lib.ListN.{length}
 use Rattle.hex.specs.Board.{Board, at, all-cells, empty, put, other}
-use Rattle.groups.specs.Forest.{Forest, place}
+use Rattle.groups.specs.Forest.{Forest, held, place}
 
 -- a board, the side to move, and the groups of its stones
 pub record Position : Type 0 where
@@ -62,3 +63,11 @@ forest-of n ms = position-of n ms .forest
 -- a legal list of moves: each goes to an empty cell. Whether somebody has connected before the last is not asked
 abbrev pub Legal : ℕ → List ℕ → Type 0
 Legal n ms = is-fair (start n) ms ≡ true
+
+-- lent memory keeps the groups that the moves lead to
+abbrev pub Kept : ℕ → List ℕ → List ℕ → List ℕ → Type 0
+Kept n ms ps bs = held ps bs ≡ forest-of n ms
+
+-- the cells are those of the board before a move to x, or after it
+abbrev pub Held-around : ℕ → List ℕ → ℕ → List ℕ → Type 0
+Held-around n ms x cells = (cells ≡ board-of n ms .cells) ⊎ (cells ≡ board-of n (ms ++ (x ∷ [])) .cells)

@@ -12,7 +12,7 @@ ghost use Rattle.hex.specs.Rows.{Stone, Row};
 ghost use Rattle.hex.specs.Sides.{number};
 ghost use Rattle.groups.specs.Words.{words};
 ghost use Rattle.groups.specs.Forest.{held, parent, root, join, take-in, place, lift};
-ghost use Rattle.groups.specs.Moves.{bare, board-of, turn-of, forest-of, Legal};
+ghost use Rattle.groups.specs.Moves.{board-of, turn-of, forest-of, Legal, Kept, Held-around};
 ghost use Rattle.groups.specs.Meaning.{Together, Joined, Open, One-byte-decides, Back-again, Bytes-told};
 use hex::Side;
 use hex::Size;
@@ -23,15 +23,15 @@ use hex::Size;
 
 // Makes the memory that of a board without stones.
 pub fn clear(size: Size, parents: &mut [u8], borders: &mut [u8])
-    ensures { λ _. ⌜ (length (now (parents .entry)) ≡ size .n * size .n * 2 → length (now (borders .entry)) ≡ size .n * size .n → held (now (parents .exit)) (now (borders .exit)) ≡ bare (size .n * size .n)) ⌝ }
+    ensures { λ _. ⌜ (length (now (parents .entry)) ≡ size .n * size .n * 2 → length (now (borders .entry)) ≡ size .n * size .n → Kept (size .n) [] (now (parents .exit)) (now (borders .exit))) ⌝ }
 {
-    for cell in 0..size.cells() {
-        hang(parents, cell, cell);
-        write(borders, cell, 0);
+    for each in 0..size.cells() {
+        hang(parents, each, each);
+        write(borders, each, 0);
     }
 }
 
-// A stone comes to an empty cell of the board that `cells` holds, and takes in the groups next to it.
+// A stone of the side to move comes to an empty cell, and takes in the groups next to it. `cells` may hold the stone already or not.
 pub fn place(
     size: Size,
     cells: &[u8],
@@ -41,7 +41,7 @@ pub fn place(
     borders: &mut [u8],
 )
     ensures value { λ _. ⌜ held (now (parents .exit)) (now (borders .exit)) ≡ place (laid (size .n) (now (cells .entry))) (number side) cell (held (now (parents .entry)) (now (borders .entry))) ⌝ }
-    ensures grows { λ _. ⌜ ((ms : List ℕ) → now (cells .entry) ≡ board-of (size .n) ms .cells → number side ≡ turn-of (size .n) ms → held (now (parents .entry)) (now (borders .entry)) ≡ forest-of (size .n) ms → held (now (parents .exit)) (now (borders .exit)) ≡ forest-of (size .n) (ms ++ (cell ∷ []))) ⌝ }
+    ensures grows { λ _. ⌜ ((ms : List ℕ) → Held-around (size .n) ms cell (now (cells .entry)) → number side ≡ turn-of (size .n) ms → Kept (size .n) ms (now (parents .entry)) (now (borders .entry)) → Kept (size .n) (ms ++ (cell ∷ [])) (now (parents .exit)) (now (borders .exit))) ⌝ }
 {
     write(borders, cell, hex::borders(size, side, cell));
     for k in 0..6 {
@@ -49,10 +49,10 @@ pub fn place(
     }
 }
 
-// The last stone is taken out: the groups that it took in are apart again.
+// The last stone is taken out: the groups that it took in are apart again, and every byte is as it was before it came.
 pub fn lift(size: Size, cell: u16, parents: &mut [u8], borders: &mut [u8])
     ensures value { λ _. ⌜ held (now (parents .exit)) (now (borders .exit)) ≡ lift (size .n * size .n) cell (held (now (parents .entry)) (now (borders .entry))) ⌝ }
-    ensures back { λ _. ⌜ ((ms : List ℕ) → Legal (size .n) (ms ++ (cell ∷ [])) → held (now (parents .entry)) (now (borders .entry)) ≡ forest-of (size .n) (ms ++ (cell ∷ [])) → held (now (parents .exit)) (now (borders .exit)) ≡ forest-of (size .n) ms) ⌝ }
+    ensures back { λ _. ⌜ ((ms : List ℕ) → Legal (size .n) (ms ++ (cell ∷ [])) → Kept (size .n) (ms ++ (cell ∷ [])) (now (parents .entry)) (now (borders .entry)) → Kept (size .n) ms (now (parents .exit)) (now (borders .exit))) ⌝ }
 {
     write(borders, cell, 0);
     for below in 0..size.cells() {

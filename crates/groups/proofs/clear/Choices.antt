@@ -3,5 +3,5 @@ use Rattle.groups.proofs.Clearing.{Cleared}
 use Rattle.groups.proofs.clear.Given as given
 
 -- the cells before this one have been cleared
-abbrev pub Inv-loop-cell : given.InvT-loop-cell
-Inv-loop-cell l = Cleared (l .cell) (words (l .parents)) (l .borders)
+abbrev pub Inv-loop-each : given.InvT-loop-each
+Inv-loop-each l = Cleared (l .each) (words (l .parents)) (l .borders)
