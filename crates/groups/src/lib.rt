@@ -175,3 +175,72 @@ fn write(bytes: &mut [u8], cell: u16, byte: u8)
         bytes[at] = byte;
     }
 }
+
+#[cfg(test)]
+mod tests {
+    use super::*;
+    use std::test::*;
+
+    // A stone comes to the board and to its groups.
+    fn play(
+        size: Size,
+        cells: &mut [u8],
+        side: Side,
+        cell: u16,
+        parents: &mut [u8],
+        borders: &mut [u8],
+    ) {
+        write(cells, cell, side.number());
+        place(size, cells, side, cell, parents, borders);
+    }
+
+    // One stone in the middle joins three groups around it, from the top row to the bottom row; taken out, it leaves no trace.
+    #[test]
+    fn three_groups_joined_and_apart_again() -> Result<(), Fail> {
+        let Some(size) = Size::new(3) else {
+            return check(false);
+        };
+        let mut cells = [0; 9];
+        let mut parents = [7; 18];
+        let mut borders = [7; 9];
+        clear(size, &mut parents, &mut borders);
+        play(size, &mut cells, Side::One, 1, &mut parents, &mut borders);
+        play(size, &mut cells, Side::Two, 0, &mut parents, &mut borders);
+        play(size, &mut cells, Side::One, 5, &mut parents, &mut borders);
+        play(size, &mut cells, Side::Two, 8, &mut parents, &mut borders);
+        play(size, &mut cells, Side::One, 6, &mut parents, &mut borders);
+        check(
+            !same_group(&parents, 1, 5)
+                && !same_group(&parents, 5, 6)
+                && !same_group(&parents, 1, 6),
+        )?;
+        let parents_before = parents;
+        let borders_before = borders;
+        play(size, &mut cells, Side::One, 4, &mut parents, &mut borders);
+        check(
+            same_group(&parents, 1, 5) && same_group(&parents, 5, 6) && !same_group(&parents, 0, 8),
+        )?;
+        check(touches_both(&borders, 4))?;
+        lift(size, 4, &mut parents, &mut borders);
+        check_eq(parents, parents_before)?;
+        check_eq(borders, borders_before)
+    }
+
+    // The last cell of a row and the first of the next have numbers next to each other, and do not touch.
+    #[test]
+    fn apart_across_the_end_of_a_row() -> Result<(), Fail> {
+        let Some(size) = Size::new(3) else {
+            return check(false);
+        };
+        let mut cells = [0; 9];
+        let mut parents = [7; 18];
+        let mut borders = [7; 9];
+        clear(size, &mut parents, &mut borders);
+        play(size, &mut cells, Side::One, 2, &mut parents, &mut borders);
+        play(size, &mut cells, Side::One, 3, &mut parents, &mut borders);
+        check(!same_group(&parents, 2, 3))?;
+        play(size, &mut cells, Side::One, 1, &mut parents, &mut borders);
+        check(same_group(&parents, 2, 3))?;
+        check(!touches_both(&borders, 1))
+    }
+}
