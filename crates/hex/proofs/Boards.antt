@@ -1,12 +1,12 @@
 -- Boards stay as they can be under a stone put on or taken off, and the empty board is one of them.
-use mathlib.Core.Path.{_≡_, refl, sym, ap, subst, _∙_}
-use mathlib.Core.Bool.{Bool, true, false, _&&_}
+use mathlib.Core.Path.{_≡_, refl, sym, ap, _∙_}
+use mathlib.Core.Bool.{true}
 use mathlib.Core.List.{List, [], _∷_}
 use Prim.Native.Nat.{ℕ, zero, suc, _+_, _*_, _≤_, _<_}
 use native.Mathlib.Omega.{arith}
-use lib.Dec.{ltb, eqb, lit<}
+use lib.Dec.{eqb, lit<}
 use lib.ListN.{length, getD, set, drop, replicate}
-use Rattle.std.proofs.shelf.Lists.{length-set, at-drop-more, at-drop-all}
+use Rattle.std.proofs.shelf.Lists.{length-set, set-set, set-getD, at-drop-more, at-drop-all}
 use Rattle.std.proofs.shelf.Tests.{and-parts, and-from, lt-ltb, ltb-true}
 use Rattle.std.proofs.shelf.Ways.{tells}
 use Rattle.hex.specs.Board.{Board, pick, at, all-cells, empty, empties, put}
@@ -76,6 +76,10 @@ empties-set (c ∷ cs) (suc i) s h e p =
     let g : i < length cs = omega arith in
     let r = empties-set cs i s g e p in
     omega arith
+
+-- With the stone taken off again all is as it was.
+pub set-back : (cs : List ℕ) (i s : ℕ) → getD cs i 0 ≡ 0 → set (set cs i s) i 0 ≡ cs
+set-back cs i s e = set-set cs i s 0 ∙ ap (set cs i) (sym e) ∙ set-getD cs i 0
 
 -- Counted from cell i on: cell i itself, and those from the next on.
 pub empties-from : (cs : List ℕ) (i : ℕ) → i < length cs → empties (drop i cs) ≡ pick (eqb (getD cs i 0) 0) 1 0 + empties (drop (i + 1) cs)

@@ -1,9 +1,9 @@
 -- The six neighbours of a cell are the cells that are next to it, and the bits of its borders are the borders it touches.
-use mathlib.Core.Path.{_≡_, refl, sym, ap, subst, _∙_}
-use mathlib.Core.Bool.{Bool, true, false, _&&_, _||_}
-use Prim.Native.Nat.{ℕ, zero, suc, _+_, _*_, _-_, _/_, _%_, _≤_, _<_}
+use mathlib.Core.Path.{_≡_, refl, sym, ap, _∙_}
+use mathlib.Core.Bool.{Bool, true, false, _||_}
+use Prim.Native.Nat.{ℕ, zero, suc, _+_, _*_, _/_, _%_, _<_}
 use native.Mathlib.Omega.{arith}
-use lib.Dec.{ltb, eqb, lit<}
+use lib.Dec.{lit<}
 use lib.IntN.{ℤ, pos, negsuc, _+ℤ_}
 use Rattle.std.specs.declared.option.Option.{Option}
 use Rattle.std.specs.declared.option.Option.the-variants.{Some, None}
@@ -13,7 +13,7 @@ use Rattle.std.proofs.shelf.Ways.{tells, same-from-decides}
 use Rattle.std.proofs.shelf.Tests.{lt-ltb}
 use Rattle.std.proofs.shelf.Signed.{ints}
 use Rattle.std.proofs.shelf.Bits.{div-mul-add, mod-mul-add, mul-add-lt, div-add-mod', div-below, mod-below}
-use Rattle.hex.specs.Board.{pick, right-of, below, up-right, next-to, begins, ends}
+use Rattle.hex.specs.Board.{right-of, below, up-right, next-to, begins, ends}
 use Rattle.hex.specs.Geometry.{cell-on, step-to, toward, neighbour-of, Beside, All-neighbours, touch}
 
 -- Nothing is not something.
@@ -56,6 +56,7 @@ in-place n j h =
 abbrev pub Leads : ℕ → ℕ → ℕ → ℕ → ℕ → Type 0
 Leads k a b c d = (down right : ℤ) × ((step-to k ≡ Some (down, right)) × (pos a +ℤ down ≡ pos c) × (pos b +ℤ right ≡ pos d))
 
+-- Where a step leads onto the board there is a step, and it leads to the cell's row and column.
 toward-parts : (n r c : ℕ) (o : Option (ℤ × ℤ)) (j : ℕ) → toward n r c o ≡ Some j → (j < n * n)
     × ((down right : ℤ) × ((o ≡ Some (down, right)) × (pos r +ℤ down ≡ pos (j / n)) × (pos c +ℤ right ≡ pos (j % n))))
 toward-parts n r c None j h = absurd (none-some h)
@@ -76,6 +77,7 @@ leads-neighbour : (n i k j : ℕ) → i < n * n → j < n * n → Leads k (i / n
 unfolding neighbour-of
 leads-neighbour n i k j h g (down, right, (s, p, q)) = simp (lt-ltb i (n * n) h, s, p, q) (in-place n j g)
 
+-- Each of the six steps leads to a cell that is next to the first.
 leads-next : (n i j k : ℕ) → Leads k (i / n) (i % n) (j / n) (j % n) → next-to n i j ≡ true
 leads-next n i j k (down, right, (s, p, q)) = grind (arith, tells, ints)
 
@@ -106,6 +108,7 @@ neighbour-beside n i k j h =
     let l = neighbour-leads n i k j h in
     record { from = l .0; inside = l .1; near = leads-next n i j k (l .2) }
 
+-- The same of what the code gives, in its three forms: by cases, that it is next to the cell, that both are on the board.
 pub neighbour-cases : (n i k : ℕ) (r : Option ℕ) → r ≡ neighbour-of n i k → Cases r (Unit {0}) (Beside n i)
 neighbour-cases n i k None h = tt
 neighbour-cases n i k (Some j) h = neighbour-beside n i k j (sym h)
@@ -136,6 +139,28 @@ pub next-mutual : (n i j : ℕ) → next-to n i j ≡ next-to n j i
 next-mutual n i j =
     same-from-decides {P = next-to n j i ≡ true} (next-to n i j) (next-to n j i)
     (next-symmetric n i j, next-symmetric n j i) ((λ h. h), (λ h. h))
+
+pub beside-symmetric : {n i j : ℕ} → Beside n i j → Beside n j i
+beside-symmetric {n} {i} {j} b = record { from = b .inside; inside = b .from; near = next-symmetric n i j (b .near) }
+
+-- No cell is next to itself.
+pub next-apart : (n i : ℕ) → next-to n i i ≡ false
+next-apart n i = grind (arith, tells)
+
+-- No two of the six steps are one,
+step-once : (k m : ℕ) (down right : ℤ) → step-to k ≡ Some (down, right) → step-to m ≡ Some (down, right) → k ≡ m
+step-once k m down right h g = grind (arith, tells, ints)
+
+-- so no two of the six neighbours of a cell are.
+pub neighbour-once : (n i j k m : ℕ) → neighbour-of n i k ≡ Some j → neighbour-of n i m ≡ Some j → k ≡ m
+neighbour-once n i j k m h g = leads-once (neighbour-leads n i k j h .2) (neighbour-leads n i m j g .2)
+  where
+    leads-once : Leads k (i / n) (i % n) (j / n) (j % n) → Leads m (i / n) (i % n) (j / n) (j % n) → k ≡ m
+    leads-once (down, right, (s, p, q)) (down′, right′, (t, u, v)) =
+        let d : down ≡ down′ = omega (arith, ints) in
+        let e : right ≡ right′ = omega (arith, ints) in
+        let f : step-to k ≡ Some (down′, right′) = cc in
+        step-once k m down′ right′ f t
 
 -- The bits of the borders that a cell touches: there are two, the first tells whether it is at the first border, the second whether
 -- it is at the last.

@@ -1,13 +1,12 @@
 -- Two stones of one side next to each other: what a search for the first of them knows.
-use mathlib.Core.Path.{_≡_, refl, sym, ap, subst, _∙_}
-use Prim.Native.Nat.{ℕ, _+_, _*_, _≤_, _<_}
+use mathlib.Core.Path.{_≡_, sym, ap, _∙_}
+use Prim.Native.Nat.{ℕ, _+_, _*_, _≤_}
 use native.Mathlib.Omega.{arith}
-use Rattle.std.specs.declared.option.Option.{Option}
 use Rattle.std.specs.declared.option.Option.the-variants.{Some, None}
 use Rattle.std.proofs.shelf.Ways.{tells}
 use borrow.Author.Count.{below-more}
-use Rattle.hex.specs.Board.{pick, Board, at}
-use Rattle.hex.specs.Geometry.{neighbour-of, Beside}
+use Rattle.hex.specs.Board.{Board, at}
+use Rattle.hex.specs.Geometry.{neighbour-of}
 use Rattle.hex.specs.Stones.{Pair, No-pair, No-pair-below, No-pair-before, First-pair}
 use Rattle.hex.specs.Sides.{number, byNumber}
 use Rattle.hex.specs.declared.side.Side.{Side}

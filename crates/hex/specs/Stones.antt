@@ -1,6 +1,5 @@
 -- Stones on a board in lent bytes: what is read, what a stone put or taken off leaves, and which two stones come first.
 use mathlib.Core.Path.{_≡_}
-use mathlib.Core.Bool.{Bool, true, false}
 use mathlib.Core.List.{List}
 use Prim.Native.Nat.{ℕ, _<_}
 use lib.Dec.{ltb, eqb}

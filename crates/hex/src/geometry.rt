@@ -53,6 +53,7 @@ pub fn neighbour(size: Size, cell: u16, k: u8) -> Option<u16>
 
 // How many directions a neighbour can lie in. The neighbours for k below this are all the cells that are next to a cell.
 pub fn directions() -> u8
+    ensures value { λ r. ⌜ r ≡ 6 ⌝ }
     ensures all { λ r. ⌜ All-neighbours r ⌝ }
     ensures only { λ r. ⌜ ((n i k j : ℕ) → neighbour-of n i k ≡ Some j → k < r) ⌝ }
     ensures symmetric { λ _. ⌜ ((n i j : ℕ) → next-to n i j ≡ next-to n j i) ⌝ }

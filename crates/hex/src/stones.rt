@@ -1,12 +1,14 @@
 // Stones on a board in lent bytes, one byte to a cell: 0 for an empty cell, else the number of the side whose stone stands there.
+use crate::geometry::directions;
 use crate::geometry::neighbour;
 use crate::side::Side;
 use crate::side::SidePartialEq;
 use crate::size::Size;
 ghost use mathlib.Core.Path.{_≡_};
-ghost use Prim.Native.Nat.{ℕ, _*_, _<_};
-ghost use lib.ListN.{length, getD, set};
+ghost use Prim.Native.Nat.{ℕ, _+_, _*_, _<_};
+ghost use lib.ListN.{length, set};
 ghost use Rattle.std.specs.Options.{Cases};
+ghost use Rattle.std.specs.declared.result.Result.the-variants.{Ok};
 ghost use Rattle.hex.specs.Board.{empty, empties, all-cells};
 ghost use Rattle.hex.specs.Geometry.{laid};
 ghost use Rattle.hex.specs.Promise.{Good};
@@ -33,6 +35,8 @@ pub fn place(cells: &mut [u8], side: Side, cell: u16) -> Result<(), Unplaced>
     ensures value { λ r. ⌜ r ≡ placing (now (cells .entry)) cell ⌝ }
     ensures after { λ _. ⌜ now (cells .exit) ≡ placed (now (cells .entry)) (number side) cell ⌝ }
     ensures good { λ _. ⌜ ((n : ℕ) → Good (laid n (now (cells .entry))) → Good (laid n (now (cells .exit)))) ⌝ }
+    ensures fewer { λ r. ⌜ (r ≡ Ok tt → empties (now (cells .exit)) + 1 ≡ empties (now (cells .entry))) ⌝ }
+    ensures back { λ r. ⌜ (r ≡ Ok tt → set (now (cells .exit)) cell 0 ≡ now (cells .entry)) ⌝ }
 {
     let index = cell as usize;
     if index >= cells.len() {
@@ -90,7 +94,7 @@ pub fn first_pair(size: Size, cells: &[u8]) -> Option<(u16, u16)>
         let Some(side) = stone(cells, i) else {
             continue 'cells;
         };
-        for k in 0..6 {
+        for k in 0..directions() {
             let Some(j) = neighbour(size, i, k) else {
                 continue;
             };

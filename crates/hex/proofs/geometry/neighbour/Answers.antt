@@ -1,8 +1,5 @@
 use mathlib.Core.Path.{_≡_}
 use native.Mathlib.Omega.{arith}
-use Rattle.std.specs.declared.option.Option.{Option}
-use Rattle.std.specs.declared.option.Option.the-variants.{None}
-use Prim.Native.Nat.{ℕ}
 use Rattle.std.proofs.shelf.Ways.{tells}
 use Rattle.hex.specs.Geometry.{neighbour-of}
 use Rattle.hex.proofs.Neighbours.{neighbour-cases}

@@ -1,9 +1,7 @@
-use mathlib.Core.Path.{_≡_, ap, sym, _∙_}
-use Prim.Native.Nat.{_*_}
+use mathlib.Core.Path.{_≡_, ap, _∙_}
 use lib.ListN.{length}
 use Rattle.hex.specs.Board.{all-cells}
 use Rattle.hex.specs.Geometry.{laid}
-use Rattle.hex.specs.Promise.{Good}
 use Rattle.hex.proofs.Boards.{all-cells-replicate, good-empty}
 use Rattle.hex.proofs.stones.clear.Needs as need
 

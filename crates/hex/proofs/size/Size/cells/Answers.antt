@@ -1,4 +1,3 @@
-use mathlib.Core.Path.{_≡_}
 use native.Mathlib.Nat.{mul-le-mul, mul-pos}
 use Rattle.hex.proofs.size.Size.cells.Needs as need
 
