@@ -1,18 +1,19 @@
 -- Memory without stones: each cell its own parent, and no bits.
-use mathlib.Core.Path.{_≡_, refl, sym, ap, _∙_}
-use mathlib.Core.Logic.{_≢_, ⊎-elim}
+use mathlib.Core.Path.{_≡_, sym, _∙_}
+use mathlib.Core.Logic.{⊎-elim}
 use mathlib.Core.List.{List, []}
-use Prim.Native.Nat.{ℕ, suc, _+_, _*_, _≤_, _<_}
+use Prim.Native.Nat.{ℕ, _+_, _*_, _≤_, _<_}
 use native.Mathlib.Omega.{arith}
 use lib.ListN.{length, getD, set}
 use Rattle.std.proofs.shelf.Lists.{getD-set-same, getD-set-other, getD-past, getD-default, length-set, same-lists}
 use Rattle.std.proofs.shelf.Tests.{cases-eq, cases-lt}
 use Rattle.hex.specs.Board.{all-cells}
+use Rattle.hex.proofs.Boards.{length-all-cells}
 use Rattle.groups.specs.Words.{words}
 use Rattle.groups.specs.Forest.{held, parent}
 use Rattle.groups.specs.Moves.{count-from, bare, played, Kept}
 use Rattle.groups.proofs.Bytes.{words-length}
-use Rattle.groups.proofs.Positions.{bare-parent, count-length, empty-at, empty-length}
+use Rattle.groups.proofs.Positions.{bare-parent, count-length, empty-at}
 
 -- the first k cells are their own parents and have no bits
 abbrev pub Cleared : ℕ → List ℕ → List ℕ → Type 0
@@ -46,12 +47,12 @@ cleared-all k m mem bs lp lb far h = λ i. record { parents = parents i; borders
 
     borders : bs ≡ all-cells k
     borders =
-        same-lists bs (all-cells k) (lb ∙ sym (empty-length k))
+        same-lists bs (all-cells k) (lb ∙ sym (length-all-cells k))
         (λ i d l.
         let on : i < k = omega arith in
         getD-default bs i d 0 l
         ∙ h i (omega arith) .1
-        ∙ sym (getD-default (all-cells k) i d 0 (omega (arith, empty-length k)) ∙ empty-at k i))
+        ∙ sym (getD-default (all-cells k) i d 0 (omega (arith, length-all-cells k)) ∙ empty-at k i))
 
 pub cleared-kept : (n m : ℕ) (mem bs : List ℕ) → length mem ≡ n * n * 2 → length bs ≡ n * n → n * n ≤ m → Cleared m (words mem) bs → Kept n [] mem bs
 unfolding played

@@ -7,8 +7,8 @@ use native.Mathlib.Nat.{zero-add, suc-add}
 use native.Mathlib.Omega.{arith}
 use lib.Dec.{eqb}
 use lib.ListN.{length, getD, set}
-use Rattle.std.proofs.shelf.Lists.{length-set, getD-set-same, getD-set-other}
-use Rattle.std.proofs.shelf.Tests.{cases-eq, eq-eqb, ne-eqb}
+use Rattle.std.proofs.shelf.Lists.{getD-set-same, getD-set-other}
+use Rattle.std.proofs.shelf.Tests.{cases-eq}
 use Rattle.std.proofs.shelf.Ways.{tells}
 use Rattle.hex.specs.Board.{pick}
 use Rattle.groups.specs.Forest.{parent, climb, root}

@@ -12,7 +12,7 @@ use Rattle.std.proofs.shelf.Tests.{cases-eq}
 use Rattle.hex.specs.Board.{Board, at}
 use Rattle.hex.specs.Rows.{Chain, here, step, Stone}
 use Rattle.groups.specs.Forest.{Forest, parent, root, join}
-use Rattle.groups.proofs.Chains.{first-own, last-own, and-then, turned}
+use Rattle.groups.proofs.Chains.{last-own, and-then, turned}
 use Rattle.groups.proofs.Climbs.{Rooted, climb-root, root-top, rerooted, rerooted-same, rerooted-other, join-top, rooted-join, root-join}
 use Rattle.groups.proofs.Marks.{Has, has-left, has-right, has-either}
 

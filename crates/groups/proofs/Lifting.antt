@@ -7,14 +7,14 @@ use Prim.Native.Nat.{ℕ, zero, suc, _+_, _≤_, _<_}
 use native.Mathlib.Numerals.{add-one}
 use native.Mathlib.Omega.{arith}
 use lib.Dec.{eqb}
-use lib.ListN.{length, getD, set}
+use lib.ListN.{length, set}
 use Rattle.std.specs.declared.option.Option.{Option}
 use Rattle.std.specs.declared.option.Option.the-variants.{Some, None}
 use Rattle.std.proofs.shelf.Lists.{length-set, getD-set-same, getD-set-other, getD-default, set-set, set-getD, set-past, same-lists}
 use Rattle.std.proofs.shelf.Tests.{cases-eq, cases-lt}
 use Rattle.std.proofs.shelf.Ways.{tells}
 use Rattle.hex.specs.Board.{pick, Board, at}
-use Rattle.hex.specs.Rows.{Chain, Stone}
+use Rattle.hex.specs.Rows.{Stone}
 use Rattle.groups.specs.Forest.{Forest, parent, root, join, take-in, adopt, alone, freed, free, lift}
 use Rattle.groups.proofs.Chains.{last-own}
 use Rattle.groups.proofs.Climbs.{Rooted, climb-root, root-top, root-parent}

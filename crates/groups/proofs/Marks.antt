@@ -1,7 +1,7 @@
 -- Border bits: which are set in two bytes joined, and when a byte has both.
 use mathlib.Core.Path.{_≡_, ap, _∙_}
 use mathlib.Core.Logic.{_⊎_, inl, inr, ⊎-elim}
-use Prim.Native.Nat.{ℕ, zero, suc, max, _+_, _*_, _/_, _%_, _^_}
+use Prim.Native.Nat.{ℕ, max, _/_, _%_, _^_}
 use native.Mathlib.Omega.{arith}
 use lib.Bits.{bitOr, or-step, or-shr}
 use Rattle.std.proofs.shelf.Bits.{mod-pow-add}

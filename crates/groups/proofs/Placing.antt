@@ -13,7 +13,7 @@ use Rattle.std.specs.declared.option.Option.the-variants.{Some, None}
 use Rattle.std.proofs.shelf.Lists.{length-set, getD-set-same, getD-set-other, getD-past}
 use Rattle.std.proofs.shelf.Tests.{cases-eq, cases-lt, eq-eqb, ne-eqb}
 use Rattle.hex.specs.Board.{pick, Board, at, put}
-use Rattle.hex.specs.Rows.{Chain, here, step, Stone}
+use Rattle.hex.specs.Rows.{Chain, here, Stone}
 use Rattle.groups.specs.Forest.{Forest, parent, root, join, take-in, adopt, alone}
 use Rattle.groups.proofs.Chains.{last-own, carried}
 use Rattle.groups.proofs.Climbs.{Rooted, climb-root}

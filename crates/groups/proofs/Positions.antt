@@ -1,24 +1,24 @@
 -- Positions that legal moves lead to: their forests hold the groups of their boards.
 use mathlib.Core.Path.{_≡_, refl, sym, ap, subst, _∙_}
 use mathlib.Core.Logic.{_≢_, _⊎_, inl, inr, ⊎-elim}
-use mathlib.Core.Bool.{Bool, true, _&&_, and-true, and-assoc}
+use mathlib.Core.Bool.{true, _&&_, and-true, and-assoc}
 use mathlib.Core.List.{List, [], _∷_, _++_}
 use Prim.Native.Nat.{ℕ, zero, suc, _+_, _*_, _<_}
 use native.Mathlib.Nat.{zero-add}
 use native.Mathlib.Omega.{arith}
-use lib.Dec.{ltb, eqb}
-use lib.ListN.{length, getD, set}
+use lib.ListN.{length, getD}
 use Rattle.std.proofs.shelf.Lists.{length-set, getD-set-other}
-use Rattle.std.proofs.shelf.Tests.{and-parts, and-from}
+use Rattle.std.proofs.shelf.Tests.{and-parts, and-from, both-ways}
 use Rattle.std.proofs.shelf.Ways.{tells}
 use Rattle.hex.specs.Board.{Board, at, all-cells, empty, put, other, next-to}
 use Rattle.hex.specs.Geometry.{neighbour-of, touch, laid}
+use Rattle.hex.specs.Promise.{Good}
 use Rattle.hex.specs.Rows.{Stone}
 use Rattle.std.specs.declared.option.Option.the-variants.{Some}
-use Rattle.hex.proofs.Neighbours.{neighbour-next, neighbour-all, next-symmetric}
+use Rattle.hex.proofs.Boards.{length-all-cells, good-set, good-empty}
+use Rattle.hex.proofs.Neighbours.{neighbour-next, neighbour-all, next-symmetric, next-apart}
 use Rattle.groups.specs.Forest.{Forest, parent, place, lift}
 use Rattle.groups.specs.Moves.{Position, count-from, bare, start, moved, played, is-free, is-fair, position-of, board-of, turn-of, forest-of, Legal}
-use Rattle.groups.proofs.Climbs.{climb-root}
 use Rattle.groups.proofs.Placing.{Grouped, adopt-alike, placed-top, placed-groups, growing-ends}
 use Rattle.groups.proofs.Lifting.{lifted}
 
@@ -101,11 +101,6 @@ empty-at zero i = refl
 empty-at (suc k) zero = refl
 empty-at (suc k) (suc i) = empty-at k i
 
-pub empty-length : (k : ℕ) → length (all-cells k) ≡ k
-unfolding all-cells
-empty-length zero = refl
-empty-length (suc k) = ap suc (empty-length k)
-
 -- Where there are no stones each cell is its own root.
 pub bare-parent : (k i : ℕ) → parent (bare k .parents) i ≡ i
 bare-parent k i = rw zero-add at (count-at 0 k i)
@@ -117,11 +112,11 @@ no-stones n t i side o = side (sym (o .1) ∙ empty-at (n * n) i)
 pub start-sound : (n : ℕ) → Sound (start n)
 start-sound n =
     record {
-      square = empty-length (n * n);
+      square = length-all-cells (n * n);
       side = inl refl;
       holds =
           record {
-            parent-each = count-length 0 (n * n) ∙ sym (empty-length (n * n));
+            parent-each = count-length 0 (n * n) ∙ sym (length-all-cells (n * n));
             bits-each = refl;
             ends = λ i. bare-parent (n * n) _;
             hangs = λ t i side o. absurd (no-stones n t i side o);
@@ -180,6 +175,15 @@ played-wide p (x ∷ ms) = played-wide (moved p x) ms
 pub board-cells : (n : ℕ) (ms : List ℕ) → Legal n ms → length (board-of n ms .cells) ≡ n * n
 board-cells n ms h = legal-sound n ms h .square ∙ ap (λ w. w * w) (played-wide (start n) ms)
 
+-- and boards as they can be stay so.
+played-good : (p : Position) (ms : List ℕ) → (p .turn ≡ 1) ⊎ (p .turn ≡ 2) → Good (p .board) → Good (played p ms .board)
+unfolding played
+played-good p [] side good = good
+played-good p (x ∷ ms) side good = played-good (moved p x) ms (other-side (p .turn) side) (good-set (p .board) (p .turn) x (omega arith) good)
+
+pub board-good : (n : ℕ) (ms : List ℕ) → 0 < n → Good (board-of n ms)
+board-good n ms some = played-good (start n) ms (inl refl) (good-empty n some)
+
 -- One move more: the board has its stone, the other side is to move, and its groups have joined.
 pub board-push : (n : ℕ) (ms : List ℕ) (x : ℕ) → board-of n (ms ++ (x ∷ [])) ≡ put (board-of n ms) (turn-of n ms) x
 board-push n ms x = ap (λ p. p .board) (played-push (start n) ms x)
@@ -190,16 +194,12 @@ turn-push n ms x = ap (λ p. p .turn) (played-push (start n) ms x)
 pub forest-push : (n : ℕ) (ms : List ℕ) (x : ℕ) → forest-of n (ms ++ (x ∷ [])) ≡ place (board-of n ms) (turn-of n ms) x (forest-of n ms)
 forest-push n ms x = ap (λ p. p .forest) (played-push (start n) ms x)
 
--- No cell is next to itself.
-not-itself : (n i : ℕ) → next-to n i i ≡ true → ⊥
-not-itself n i h = grind (arith, tells)
-
 -- What stands on x does not matter to the groups that join there.
 pub place-alike : (b : Board) (s t x : ℕ) (f : Forest) → place (put b t x) s x f ≡ place b s x f
 place-alike b s t x f =
     adopt-alike (put b t x) b s x (neighbour-of (b .wide) x)
     (λ k y e.
-    let other : y ≢ x = λ same. not-itself (b .wide) x (subst (λ z. next-to (b .wide) x z ≡ true) same (neighbour-next (b .wide) x k y e)) in
+    let other : y ≢ x = λ same. both-ways _ (next-apart (b .wide) x) (subst (λ z. next-to (b .wide) x z ≡ true) same (neighbour-next (b .wide) x k y e)) in
     getD-set-other (b .cells) x y t 0 other)
     6 _
 

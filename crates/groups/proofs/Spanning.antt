@@ -1,6 +1,6 @@
 -- What groups tell, for any nearness and any borders: which stones hang together, and whether a side spans from border to border.
-use mathlib.Core.Path.{_≡_, refl, sym, ap, subst, _∙_}
-use mathlib.Core.Logic.{_≢_, _⊎_, inl, inr, ⊎-elim}
+use mathlib.Core.Path.{_≡_, ap, subst, _∙_}
+use mathlib.Core.Logic.{_≢_, ⊎-elim}
 use mathlib.Core.Bool.{Bool, true}
 use Prim.Native.Nat.{ℕ, _<_}
 use lib.ListN.{length, getD}
@@ -12,7 +12,7 @@ use Rattle.groups.specs.Meaning.{Just-if, Both, Spans}
 use Rattle.groups.proofs.Chains.{first-own, last-own, and-then, turned, carried}
 use Rattle.groups.proofs.Climbs.{climb-root, root-top}
 use Rattle.groups.proofs.Marks.{Has, both-bits, bits-both}
-use Rattle.groups.proofs.Placing.{Touching, Grouped, new-or-old, placed}
+use Rattle.groups.proofs.Placing.{Grouped, new-or-old, placed}
 
 -- a row of stones of side t leads from its first border to its last
 pub record Spanning (near : ℕ → ℕ → Bool) (bits : ℕ → ℕ → ℕ) (b : Board) (t : ℕ) : Type 0 where

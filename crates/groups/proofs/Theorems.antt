@@ -3,20 +3,20 @@ use mathlib.Core.Path.{_≡_, refl, sym, ap, subst, _∙_}
 use mathlib.Core.Logic.{_≢_, _⊎_, inl, inr, ⊎-elim}
 use mathlib.Core.Bool.{Bool, true}
 use mathlib.Core.List.{List, [], _∷_, _++_}
-use Prim.Native.Nat.{ℕ, _*_, _%_, _<_}
+use Prim.Native.Nat.{ℕ, _*_, _%_}
 use native.Mathlib.Omega.{arith}
 use lib.Dec.{eqb}
 use lib.ListN.{length, getD}
 use Rattle.std.specs.Orderings.{Decides}
 use Rattle.std.proofs.shelf.Ways.{decides-like, decides-at, decides-eqb}
-use Rattle.hex.specs.Board.{Board, at, put, other, Connects, next-to}
-use Rattle.hex.specs.Geometry.{touch, laid}
+use Rattle.hex.specs.Board.{other, Connects}
+use Rattle.hex.specs.Geometry.{laid}
 use Rattle.hex.specs.Rows.{Stone, Row}
 use Rattle.hex.proofs.Neighbours.{next-symmetric}
 use Rattle.groups.specs.Forest.{Forest, held, root, place, lift}
 use Rattle.groups.specs.Moves.{Position, start, moved, is-free, position-of, board-of, turn-of, forest-of, Legal, Kept, Held-around}
-use Rattle.groups.specs.Meaning.{Just-if, Both, Together, Spans, Joined, Open, One-byte-decides, Back-again}
-use Rattle.groups.proofs.Spanning.{Spanning, same-root, spans, byte-decides, other-as-before}
+use Rattle.groups.specs.Meaning.{Just-if, Both, Together, Joined, Open, One-byte-decides, Back-again}
+use Rattle.groups.proofs.Spanning.{same-root, spans, byte-decides, other-as-before}
 use Rattle.groups.proofs.Ways.{connects}
 use Rattle.groups.proofs.Positions.{Sound, no-empty, other-side, of-both, legal-none, nothing-first, free-parts, moved-top, moved-sound, moved-back, played-push, legal-sound, legal-last, board-cells, board-laid, board-push, forest-push, place-alike}
 

@@ -1,8 +1,8 @@
 -- A way is a row of stones from the first border to the last, and the other way about.
-use mathlib.Core.Path.{_≡_, refl, sym, ap, subst, _∙_}
+use mathlib.Core.Path.{_≡_, refl, sym, subst}
 use mathlib.Core.Bool.{Bool, true, _&&_}
 use mathlib.Core.List.{List, [], _∷_}
-use Prim.Native.Nat.{ℕ, _<_}
+use Prim.Native.Nat.{ℕ}
 use native.Mathlib.Omega.{arith}
 use lib.Dec.{ltb, eqb}
 use lib.ListN.{length}
@@ -10,7 +10,7 @@ use Rattle.std.specs.Orderings.{Decides}
 use Rattle.std.proofs.shelf.Tests.{and-parts, and-from, false≢true}
 use Rattle.std.proofs.shelf.Ways.{tells}
 use Rattle.hex.specs.Board.{Board, at, next-to, begins, ends, goes-on, is-way, Connects}
-use Rattle.hex.specs.Rows.{Chain, here, step, Stone, Row}
+use Rattle.hex.specs.Rows.{here, step, Stone, Row}
 use Rattle.hex.specs.Geometry.{touch}
 use Rattle.hex.proofs.Neighbours.{touch-first, touch-last, touch-few}
 use Rattle.groups.specs.Meaning.{Just-if}

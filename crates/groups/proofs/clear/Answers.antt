@@ -1,4 +1,4 @@
-use mathlib.Core.Path.{_≡_, sym, subst₂, _∙_}
+use mathlib.Core.Path.{sym, subst₂, _∙_}
 use Prim.Native.Nat.{_+_}
 use native.Mathlib.Omega.{arith}
 use Rattle.groups.specs.Words.{words}

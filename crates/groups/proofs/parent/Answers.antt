@@ -1,4 +1,4 @@
-use mathlib.Core.Path.{_≡_, sym}
+use mathlib.Core.Path.{sym}
 use native.Mathlib.Omega.{arith}
 use Rattle.groups.proofs.Bytes.{word-at, read-past}
 use Rattle.groups.proofs.parent.Needs as need

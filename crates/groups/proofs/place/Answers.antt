@@ -1,9 +1,8 @@
-use mathlib.Core.Path.{_≡_, sym, ap, _∙_}
+use mathlib.Core.Path.{_≡_, ap, _∙_}
 use native.Mathlib.Omega.{arith}
 use lib.ListN.{set}
 use Rattle.hex.specs.Geometry.{neighbour-of, touch, laid}
 use Rattle.hex.specs.Sides.{number}
-use Rattle.groups.specs.Words.{words}
 use Rattle.groups.specs.Forest.{held, adopt, place}
 use Rattle.groups.proofs.Placing.{adopt-none, adopt-more}
 use Rattle.groups.proofs.Theorems.{memory-grows}

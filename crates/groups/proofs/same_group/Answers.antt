@@ -1,5 +1,4 @@
 use mathlib.Core.Path.{_≡_, ap₂}
-use mathlib.Core.Bool.{Bool}
 use lib.Dec.{eqb}
 use Rattle.groups.specs.Words.{words}
 use Rattle.groups.specs.Forest.{root}
