@@ -1,0 +1,57 @@
+-- What the groups mean, for every legal list of moves on boards of every size: who hangs together, and who has connected.
+use mathlib.Core.Path.{_≡_}
+use mathlib.Core.Logic.{_≢_}
+use mathlib.Core.List.{List, [], _∷_, _++_}
+use Prim.Native.Nat.{ℕ, _*_, _%_, _<_}
+use lib.ListN.{length, getD}
+use Rattle.hex.specs.Board.{Board, Connects, other}
+use Rattle.hex.specs.Rows.{Stone, Row}
+use Rattle.groups.specs.Words.{words}
+use Rattle.groups.specs.Forest.{Forest, parent, root, lift}
+use Rattle.groups.specs.Moves.{board-of, turn-of, forest-of, Legal}
+
+-- each of two statements follows from the other
+abbrev pub Just-if : Type 0 → Type 0 → Type 0
+Just-if P Q = (P → Q) × (Q → P)
+
+-- both border bits
+abbrev pub Both : ℕ → Type 0
+Both bits = bits % 4 ≡ 3
+
+-- Two stones of a side have the same root just if a row of its stones leads from one to the other.
+abbrev pub Together : Type 0
+Together =
+    (n : ℕ) (ms : List ℕ) (s i j : ℕ) → Legal n ms → s ≢ 0 → Stone (board-of n ms) s i → Stone (board-of n ms) s j →
+    Just-if (root (forest-of n ms .parents) i ≡ root (forest-of n ms .parents) j) (Row (board-of n ms) s i j)
+
+-- some group of side s touches both its borders
+pub record Spans (b : Board) (s : ℕ) (f : Forest) : Type 0 where
+  pub top : ℕ
+  pub stone : Stone b s top
+  pub is-root : parent (f .parents) top ≡ top
+  pub touches : Both (getD (f .borders) top 0)
+
+-- A side has connected just if some group of it touches both its borders.
+abbrev pub Joined : Type 0
+Joined = (n : ℕ) (ms : List ℕ) (s : ℕ) → Legal n ms → s ≢ 0 → Just-if (Connects (board-of n ms) s) (Spans (board-of n ms) s (forest-of n ms))
+
+-- nobody has connected
+abbrev pub Open : Board → Type 0
+Open b = (Connects b 1 → ⊥) × (Connects b 2 → ⊥)
+
+-- If nobody had connected before, the byte of the last stone tells whether its side has connected now; the other side has not.
+abbrev pub One-byte-decides : Type 0
+One-byte-decides =
+    (n : ℕ) (ms : List ℕ) (x : ℕ) → Legal n (ms ++ (x ∷ [])) → Open (board-of n ms) →
+    Just-if (Connects (board-of n (ms ++ (x ∷ []))) (turn-of n ms)) (Both (getD (forest-of n (ms ++ (x ∷ [])) .borders) x 0))
+    × (Connects (board-of n (ms ++ (x ∷ []))) (other (turn-of n ms)) → ⊥)
+
+-- The last stone taken out leaves the groups as they were before it.
+abbrev pub Back-again : Type 0
+Back-again = (n : ℕ) (ms : List ℕ) (x : ℕ) → Legal n (ms ++ (x ∷ [])) → lift (n * n) x (forest-of n (ms ++ (x ∷ []))) ≡ forest-of n ms
+
+-- The numbers in memory tell its bytes: as many bytes, in pairs, that hold the same numbers are the same bytes.
+abbrev pub Bytes-told : Type 0
+Bytes-told =
+    (k : ℕ) (xs ys : List ℕ) → length xs ≡ k * 2 → length ys ≡ k * 2 →
+    ((i : ℕ) → getD xs i 0 < 256) → ((i : ℕ) → getD ys i 0 < 256) → words xs ≡ words ys → xs ≡ ys
