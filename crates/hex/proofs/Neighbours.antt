@@ -21,9 +21,9 @@ none-some : {j : ℕ} → None ≡ Some j → ⊥
 none-some {j} h = let z : _≡_ {A = ℕ} 0 1 = cc in omega arith
 
 -- A board that has a cell is at least one wide.
-pub wide : (n i : ℕ) → i < n * n → 0 < n
-wide zero i h = omega arith
-wide (suc n) i h = omega arith
+pub some-width : (n i : ℕ) → i < n * n → 0 < n
+some-width zero i h = omega arith
+some-width (suc n) i h = omega arith
 
 -- The cell in row r and column c has them as quotient and rest.
 at-place : (n r c j : ℕ) → (r < n) × (c < n) × (j ≡ r * n + c) → (r ≡ j / n) × (c ≡ j % n) × (j < n * n)
@@ -46,7 +46,7 @@ on-place n (negsuc r) (negsuc c) j h = absurd (none-some h)
 -- Each cell of the board stands in the row and the column that its quotient and rest name.
 in-place : (n j : ℕ) → j < n * n → cell-on n (pos (j / n)) (pos (j % n)) ≡ Some j
 in-place n j h =
-    let w = wide n j h in
+    let w = some-width n j h in
     let d = div-below j n n w h in
     let m = mod-below j n w in
     let e = div-add-mod' j n in
@@ -120,9 +120,13 @@ neighbour-inside n i k j h = let b = neighbour-beside n i k j h in (b .from, b .
 pub neighbour-all : (n i j : ℕ) → i < n * n → j < n * n → next-to n i j ≡ true → (k : ℕ) × (k < 6) × (neighbour-of n i k ≡ Some j)
 neighbour-all n i j h g e = let l = next-leads n i j e in (l .0, l .1, leads-neighbour n i (l .0) j h g (l .2))
 
-pub all-neighbours : All-neighbours
+pub all-neighbours : All-neighbours 6
 unfolding All-neighbours
 all-neighbours n i j b = neighbour-all n i j (b .from) (b .inside) (b .near)
+
+-- There are six.
+pub neighbour-below : (n i k j : ℕ) → neighbour-of n i k ≡ Some j → k < 6
+neighbour-below n i k j h = let l = neighbour-leads n i k j h .2 in grind (arith, tells, l .2 .0)
 
 -- Two cells are next to each other, whichever is named first.
 pub next-symmetric : (n i j : ℕ) → next-to n i j ≡ true → next-to n j i ≡ true

@@ -42,9 +42,9 @@ pub record Beside (n i j : ℕ) : Type 0 where
   pub inside : j < n * n
   pub near : next-to n i j ≡ true
 
--- Each cell that is next to a cell is one of its six neighbours, on boards of every size.
-unfoldable pub All-neighbours : Type 0
-All-neighbours = (n i j : ℕ) → Beside n i j → (k : ℕ) × (k < 6) × (neighbour-of n i k ≡ Some j)
+-- Each cell that is next to a cell is one of its first m neighbours, on boards of every size.
+unfoldable pub All-neighbours : ℕ → Type 0
+All-neighbours m = (n i j : ℕ) → Beside n i j → (k : ℕ) × (k < m) × (neighbour-of n i k ≡ Some j)
 
 -- the borders of side s that cell i touches, as two bits: 1 for its first, 2 for its last
 unfoldable pub touch : ℕ → ℕ → ℕ → ℕ

@@ -3,6 +3,7 @@ use crate::side::Side;
 use crate::size::Size;
 ghost use mathlib.Core.Path.{_≡_};
 ghost use Prim.Native.Nat.{ℕ, _/_, _%_, _<_};
+ghost use Rattle.std.specs.declared.option.Option.the-variants.{Some};
 ghost use Rattle.std.specs.Options.{Cases};
 ghost use Rattle.std.specs.Orderings.{Decides};
 ghost use Rattle.hex.specs.Board.{next-to, begins, ends};
@@ -50,11 +51,14 @@ pub fn neighbour(size: Size, cell: u16, k: u8) -> Option<u16>
     cell_on(size, row, column)
 }
 
-// Every cell that is next to a cell is given by `neighbour` for some k below 6: a theorem, with no work at run time.
-pub fn neighbours_are_all()
-    ensures all { λ _. ⌜ All-neighbours ⌝ }
+// How many directions a neighbour can lie in. The neighbours for k below this are all the cells that are next to a cell.
+pub fn directions() -> u8
+    ensures all { λ r. ⌜ All-neighbours r ⌝ }
+    ensures only { λ r. ⌜ ((n i k j : ℕ) → neighbour-of n i k ≡ Some j → k < r) ⌝ }
     ensures symmetric { λ _. ⌜ ((n i j : ℕ) → next-to n i j ≡ next-to n j i) ⌝ }
-{}
+{
+    6
+}
 
 // The borders of a side that a cell touches, as two bits: 1 for its first border, 2 for its last.
 pub fn borders(size: Size, side: Side, cell: u16) -> u8
@@ -71,4 +75,80 @@ pub fn borders(size: Size, side: Side, cell: u16) -> u8
     let first = if place == 0 { 1 } else { 0 };
     let last = if place == n - 1 { 2 } else { 0 };
     first + last
+}
+
+#[cfg(test)]
+mod tests {
+    use super::*;
+    use std::test::*;
+
+    // Which cells of the 3 by 3 board are next to each other: a row for each cell, 1 for each cell that is next to it.
+    static NEAR: [[u8; 9]; 9] = [
+        [0, 1, 0, 1, 0, 0, 0, 0, 0],
+        [1, 0, 1, 1, 1, 0, 0, 0, 0],
+        [0, 1, 0, 0, 1, 1, 0, 0, 0],
+        [1, 1, 0, 0, 1, 0, 1, 0, 0],
+        [0, 1, 1, 1, 0, 1, 1, 1, 0],
+        [0, 0, 1, 0, 1, 0, 0, 1, 1],
+        [0, 0, 0, 1, 1, 0, 0, 1, 0],
+        [0, 0, 0, 0, 1, 1, 1, 0, 1],
+        [0, 0, 0, 0, 0, 1, 0, 1, 0],
+    ];
+
+    fn six(size: Size, cell: u16) -> [Option<u16>; 6] {
+        [
+            neighbour(size, cell, 0),
+            neighbour(size, cell, 1),
+            neighbour(size, cell, 2),
+            neighbour(size, cell, 3),
+            neighbour(size, cell, 4),
+            neighbour(size, cell, 5),
+        ]
+    }
+
+    #[test]
+    fn three_by_three() -> Result<(), Fail> {
+        let Some(size) = Size::new(3) else {
+            return check(false);
+        };
+        for i in 0..9u16 {
+            for j in 0..9u16 {
+                let near = six(size, i).contains(&Some(j));
+                check_eq(near, NEAR[i as usize][j as usize] == 1)?;
+            }
+        }
+        Ok(())
+    }
+
+    #[test]
+    fn corners() -> Result<(), Fail> {
+        let Some(one) = Size::new(1) else {
+            return check(false);
+        };
+        check_eq(six(one, 0), [None, None, None, None, None, None])?;
+        check_eq(borders(one, Side::One, 0), 3)?;
+        let Some(two) = Size::new(2) else {
+            return check(false);
+        };
+        check_eq(six(two, 0), [Some(1), None, Some(2), None, None, None])?;
+        check_eq(six(two, 1), [None, Some(0), Some(3), None, None, Some(2)])?;
+        check_eq(six(two, 2), [Some(3), None, None, Some(0), Some(1), None])?;
+        check_eq(six(two, 3), [None, Some(2), None, Some(1), None, None])?;
+        let Some(most) = Size::new(19) else {
+            return check(false);
+        };
+        check_eq(six(most, 0), [Some(1), None, Some(19), None, None, None])?;
+        check_eq(
+            six(most, 18),
+            [None, Some(17), Some(37), None, None, Some(36)],
+        )?;
+        check_eq(
+            six(most, 342),
+            [Some(343), None, None, Some(323), Some(324), None],
+        )?;
+        check_eq(
+            six(most, 360),
+            [None, Some(359), None, Some(341), None, None],
+        )
+    }
 }

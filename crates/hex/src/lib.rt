@@ -2,9 +2,17 @@
 mod geometry;
 mod side;
 mod size;
+mod stones;
 
 pub use geometry::borders;
+pub use geometry::directions;
 pub use geometry::neighbour;
-pub use geometry::neighbours_are_all;
 pub use side::Side;
 pub use size::Size;
+pub use stones::Unplaced;
+pub use stones::clear;
+pub use stones::count_empty;
+pub use stones::first_pair;
+pub use stones::lift;
+pub use stones::place;
+pub use stones::stone;

@@ -1,0 +1,5 @@
+use Rattle.hex.proofs.Neighbours.{all-neighbours, neighbour-below, next-mutual}
+use Rattle.hex.proofs.geometry.directions.Needs as need
+
+pub returns : need.returns
+returns c = record { all = all-neighbours; only = neighbour-below; symmetric = next-mutual }
