@@ -1,0 +1,1 @@
+// Moves made and taken back in lent memory.
