@@ -1,17 +1,15 @@
 -- Boards that are better for a side: what it can force on a board, it can force on every better one.
-use mathlib.Core.Path.{_≡_, refl, sym, _∙_}
-use mathlib.Core.Bool.{true}
-use mathlib.Core.Logic.{_⊎_, inl, inr, ⊎-elim, _≢_}
-use mathlib.Core.List.{List, [], _∷_}
-use Prim.Native.Nat.{ℕ, _<_, _-_}
+use mathlib.Core.Path.{_≡_, refl, sym, subst, _∙_}
+use mathlib.Core.Logic.{_⊎_, inl, inr}
+use Prim.Native.Nat.{ℕ, _<_}
 use native.Mathlib.Omega.{arith}
-use lib.ListN.{length, getD, set}
+use lib.ListN.{length}
 use Rattle.std.proofs.shelf.Lists.{length-set, getD-set-same, getD-set-other}
-use Rattle.hex.specs.Board.{Board, at, next-to, begins, ends, Connects, empties, put, other}
+use Rattle.hex.specs.Board.{Board, at, Connects, empties, put, other}
 use Rattle.hex.specs.Games.{Forces, has, mine, theirs}
 use Rattle.hex.specs.Promise.{Never-a-loss}
 use Rattle.theorems.proofs.Stones.{Side, Empty-in, set-each, empty-counts, empty-or-full, some-empty}
-use Rattle.theorems.proofs.Ways.{Carries, carried}
+use Rattle.theorems.proofs.Ways.{carried}
 
 -- A cell with y is at least as good for side s as one with x: they are the same, or y is a stone of s, or x one of the other.
 abbrev pub Up : ℕ → ℕ → ℕ → Type 0
@@ -26,6 +24,30 @@ pub record Better (s : ℕ) (b c : Board) : Type 0 where
 -- Every board is as good as itself.
 pub better-refl : (s : ℕ) (b : Board) → Better s b b
 better-refl s b = record { wide = refl; long = refl; up = λ i. inl refl }
+
+-- Better than better is better.
+pub up-trans : (s : ℕ) → Side s → (x y z : ℕ) → Up s x y → Up s y z → Up s x z
+up-trans s side x y z (inl e) u = subst (λ v. Up s v z) e u
+up-trans s side x y z (inr (inl e)) (inl f) = inr (inl (f ∙ e))
+up-trans s side x y z (inr (inl e)) (inr (inl f)) = inr (inl f)
+up-trans s side x y z (inr (inl e)) (inr (inr f)) = absurd (omega arith)
+up-trans s side x y z (inr (inr e)) _ = inr (inr e)
+
+pub better-trans : (s : ℕ) → Side s → (b c d : Board) → Better s b c → Better s c d → Better s b d
+better-trans s side b c d k l = record {
+  wide = l .wide ∙ k .wide;
+  long = l .long ∙ k .long;
+  up = λ i. up-trans s side (at b i) (at c i) (at d i) (k .up i) (l .up i);
+}
+
+-- What is better for a side is worse for the other.
+pub better-turned : (s : ℕ) → Side s → (b c : Board) → Better s b c → Better (other s) c b
+better-turned s side b c k = record { wide = sym (k .wide); long = sym (k .long); up = λ i. go (at b i) (at c i) (k .up i) }
+  where
+    go : (x y : ℕ) → Up s x y → Up (other s) y x
+    go x y (inl e) = inl (sym e)
+    go x y (inr (inl e)) = inr (inr (omega arith))
+    go x y (inr (inr e)) = inr (inl e)
 
 -- A cell made better on the better board, whatever it was.
 pub put-better : (s : ℕ) (b c : Board) (i y : ℕ) → i < length (c .cells) → Better s b c → Up s (at b i) y → Better s b (put c y i)

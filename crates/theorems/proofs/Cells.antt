@@ -10,10 +10,12 @@ pub record Cell : Type 0 where
   pub row : ℕ
   pub column : ℕ
 
+-- A cell is told by its row and column.
 pub same-cell : (p q : Cell) → p .row ≡ q .row → p .column ≡ q .column → p ≡ q
 same-cell p q e f = λ i. record { row = e i; column = f i }
 
--- Two cells touch: rows, columns and rising diagonals differ by at most one. Then twice the row plus the column tells them apart.
+-- Two cells touch, said by inequalities alone, without six cases: their rows, their columns and the sums of both differ by at most
+-- one, and they are not the same. Among such cells twice the row plus the column tells two apart.
 pub record Near (p q : Cell) : Type 0 where
   pub up : p .row ≤ q .row + 1
   pub down : q .row ≤ p .row + 1
@@ -28,12 +30,13 @@ pub record Near (p q : Cell) : Type 0 where
 abbrev pub ahead : Cell → Cell → Cell
 ahead p q = record { row = p .row + p .column - q .column; column = q .row + q .column - p .row }
 
--- With p not in column 0 and q not in row 0, no number of the cell ahead falls below 0.
+-- two cells that touch, p not in column 0 and q not in row 0
 module _ (p q : Cell) (n : Near p q) (h : 0 < p .column) (k : 0 < q .row) where
+  -- No difference is cut off at 0,
   ahead-room : (q .column ≤ p .row + p .column) × (p .row ≤ q .row + q .column)
   ahead-room = omega arith
 
-  -- The cell ahead is not the corner (0, 0),
+  -- the cell ahead is not the corner (0, 0),
   pub ahead-off : 0 < ahead p q .row + ahead p q .column
   ahead-off = let r = ahead-room in omega arith
 

@@ -2,7 +2,7 @@
 use mathlib.Core.Path.{_≡_}
 use mathlib.Core.Bool.{cond, _&&_}
 use mathlib.Core.Logic.{_⊎_, inl, inr}
-use Prim.Native.Nat.{ℕ, suc, _+_, _-_, _<_, _≤_}
+use Prim.Native.Nat.{ℕ, _+_, _-_, _<_, _≤_}
 use native.Mathlib.Omega.{arith}
 use lib.Dec.{ltb, eqb}
 use Rattle.std.proofs.shelf.Ways.{tells}
@@ -26,6 +26,7 @@ pub data Walk (A Z : ℕ → ℕ → Type 0) : ℕ → ℕ → Type 0 where
   stop : {a j : ℕ} → A a j → Z a j → Walk A Z a j
   step : {a j b k : ℕ} → A a j → Next a j b k → Walk A Z b k → Walk A Z a j
 
+-- The walk starts on a cell of A.
 start : {A Z : ℕ → ℕ → Type 0} {a j : ℕ} → Walk A Z a j → A a j
 start (stop h _) = h
 start (step h _ _) = h
@@ -49,6 +50,7 @@ record Differ (A Z : ℕ → ℕ → Type 0) (r c s d : ℕ) (g : ℕ → ℕ �
   down : (a j b k : ℕ) → A a j → A b k → Above a j b k → left r c a j + g a j ≡ left s d a j + g b k
   last : (a j : ℕ) → A a j → Z a j → left r c a j + g a j ≡ left s d a j
 
+-- A cell counts once at most.
 left-small : (r c a j : ℕ) → left r c a j ≤ 1
 left-small r c a j = grind (arith, tells)
 

@@ -1,3 +1,4 @@
+pub mod Numbers
 pub mod Stones
 pub mod Ways
 pub mod Crossing
@@ -10,3 +11,4 @@ pub mod Better
 pub mod Mirror
 pub mod NotBoth
 pub mod Decided
+pub mod FirstWins

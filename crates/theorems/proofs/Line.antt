@@ -8,7 +8,8 @@ use lib.Dec.{eqb}
 use Rattle.std.proofs.shelf.Bits.{mul-add-lt}
 use Rattle.std.proofs.shelf.Tests.{cases-lt}
 use Rattle.std.proofs.shelf.Ways.{tells}
-use Rattle.theorems.proofs.MustEnd.{must-end, pair-same, zero-or-more}
+use Rattle.theorems.proofs.Numbers.{zero-or-more, pair-same}
+use Rattle.theorems.proofs.MustEnd.{must-end}
 use Rattle.theorems.proofs.Cells.{Cell, same-cell, Near, turn-near, ahead, ahead-off, ahead-of-one, ahead-of-two, one-behind, two-behind, along, one-along}
 
 -- the line is followed by pairs of cells that touch: one of side 1, one of side 2
@@ -79,6 +80,7 @@ module _ (w t : ℕ) (colour : Cell → Bool) where
   replaced : Place → Cell → Place
   replaced l x = cond (ringed x) (record { one = x; two = l .two }) (record { one = l .one; two = x })
 
+  -- A cell of side 1 is then at the left hand, one of side 2 at the right.
   replaced-one : (l : Place) (x : Cell) → ringed x ≡ true → replaced l x ≡ record { one = x; two = l .two }
   unfolding replaced
   replaced-one l x e = rw e
@@ -98,6 +100,7 @@ module _ (w t : ℕ) (colour : Cell → Bool) where
   begin : Place
   begin = record { one = record { row = 0; column = 1 }; two = record { row = 1; column = 0 } }
 
+  -- Both are of the ring, so nothing has to lead to them.
   started : 0 < w → 0 < t → OnLine begin
   unfolding begin ringed
   started hw ht = record {

@@ -1,24 +1,25 @@
 -- Rows and columns exchanged, and the sides: what one side had, the other has.
 use mathlib.Core.Path.{_≡_, refl, sym, ap, subst, _∙_}
 use mathlib.Core.Bool.{true}
-use mathlib.Core.Logic.{_⊎_, inl, inr, _≢_}
-use Prim.Native.Nat.{ℕ, _+_, _*_, _-_, _/_, _%_, _<_}
+use Prim.Native.Nat.{ℕ, _+_, _*_, _/_, _%_, _<_}
 use native.Mathlib.Omega.{arith}
 use lib.Dec.{eqb}
-use lib.ListN.{length, getD, set}
+use lib.ListN.{length}
 use Rattle.std.proofs.shelf.Bits.{div-below, mod-below, mul-add-lt, div-mul-add, mod-mul-add, div-add-mod'}
 use Rattle.std.proofs.shelf.Lists.{length-set, getD-set-same, getD-set-other}
 use Rattle.std.proofs.shelf.Ways.{tells}
-use Rattle.hex.specs.Board.{pick, Board, at, next-to, begins, ends, Connects, empties, put, other}
+use Rattle.hex.specs.Board.{pick, Board, at, next-to, begins, ends, Connects, put, other}
 use Rattle.hex.specs.Games.{Forces, has, mine, theirs}
 use Rattle.hex.specs.Promise.{Good, across, Turned, Turned-over}
 use Rattle.theorems.proofs.Stones.{Side, other-side, set-each, empty-counts, some-empty, good-at, good-put}
-use Rattle.theorems.proofs.Ways.{Carries, carried}
+use Rattle.theorems.proofs.Ways.{carried}
 
+-- What a cell across is, written out.
 across-is : (n i : ℕ) → across n i ≡ (i % n) * n + i / n
 unfolding across
 across-is n i = refl
 
+-- a cell of a board n wide and n tall
 module _ (n i : ℕ) (pos : 0 < n) (h : i < n * n) where
   -- The cell across lies in the row that was the column, and in the column that was the row.
   pub across-row : across n i / n ≡ i % n

@@ -2,10 +2,8 @@
 use mathlib.Core.Path.{_≡_, subst}
 use mathlib.Core.Bool.{true}
 use mathlib.Core.List.{List, [], _∷_}
-use mathlib.Core.Logic.{_⊎_, inl, inr}
 use Prim.Native.Nat.{ℕ, _+_, _*_, _/_, _%_, _<_}
 use native.Mathlib.Omega.{arith}
-use lib.ListN.{length}
 use Rattle.std.proofs.shelf.Bits.{div-below, mod-below, div-add-mod'}
 use Rattle.std.proofs.shelf.Tests.{eqb-true, false≢true}
 use Rattle.std.proofs.shelf.Ways.{tells}
@@ -23,8 +21,10 @@ next-from n i j e = grind (arith, tells)
 abbrev Of : Board → ℕ → ℕ → ℕ → Type 0
 Of b s a j = (at b (a * b .wide + j) ≡ s) × (a < b .wide) × (j < b .wide)
 
+-- a side whose last border is where Z holds
 module _ (b : Board) (g : Good b) (s : ℕ) (Z : ℕ → ℕ → Type 0)
     (last : (i : ℕ) → ends (b .wide) s i ≡ true → Z (i / b .wide) (i % b .wide)) where
+  -- A stone is in its row and column.
   of-stone : (i : ℕ) → Stone b s i → Of b s (i / b .wide) (i % b .wide)
   of-stone i h = (rw div-add-mod' (h .1), div-below i (b .wide) (b .wide) (g .0) (omega (arith, g .1)), mod-below i (b .wide) (g .0))
 

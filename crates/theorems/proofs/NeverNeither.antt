@@ -24,6 +24,7 @@ side s = cond s 1 2
 number : ℕ → Cell → ℕ
 number n p = (p .row - 1) * n + (p .column - 1)
 
+-- From the number, its row and column.
 module _ (n : ℕ) (p : Cell) (h : 0 < p .column) (k : p .column ≤ n) where
   number-row : number n p / n ≡ p .row - 1
   unfolding number
@@ -49,9 +50,11 @@ of-side s x h k e = grind (arith, tells)
 
 -- a good board without empty cells, each cell of side 1 or else of side 2
 module _ (b : Board) (g : Good b) (none : empties (b .cells) ≡ 0) where
+  -- whether side 1 has the cell
   colour : Cell → Bool
   colour p = eqb (at b (number (b .wide) p)) 1
 
+  -- No cell is empty, so each cell of a side has a stone of it.
   stone : (s : Bool) (p : Cell) → On (b .wide) (b .wide) colour s p → Stone b (side s) (number (b .wide) p)
   unfolding number colour
   stone s p on =
@@ -59,10 +62,12 @@ module _ (b : Board) (g : Good b) (none : empties (b .cells) ≡ 0) where
       let h : i < length (b .cells) = omega (arith, g .1, mul-add-lt (p .row - 1) (b .wide) (p .column - 1) (b .wide) (omega arith) (omega arith)) in
       (h, of-side s (at b i) (good-at (b .cells) i (g .2)) (λ z. omega (arith, empty-counts (b .cells) i h z)) (on .mine))
 
-  led-on : (s : Bool) {p : Cell} → Led (b .wide) (b .wide) colour s p → On (b .wide) (b .wide) colour s p
-  led-on s (first on _) = on
-  led-on s (more _ _ on) = on
+  -- What is led to is a cell of the board.
+  end-on : (s : Bool) {p : Cell} → Led (b .wide) (b .wide) colour s p → On (b .wide) (b .wide) colour s p
+  end-on s (first on _) = on
+  end-on s (more _ _ on) = on
 
+  -- The first row and column of the line are the first borders, the last ones the last.
   at-first : (s : Bool) (p : Cell) → On (b .wide) (b .wide) colour s p → along s p ≡ 1 → begins (b .wide) (side s) (number (b .wide) p) ≡ true
   at-first s p on e =
       let r = number-row (b .wide) p (on .left) (on .right) in
@@ -79,7 +84,7 @@ module _ (b : Board) (g : Good b) (none : empties (b .cells) ≡ 0) where
   led-way : (s : Bool) {p : Cell} → Led (b .wide) (b .wide) colour s p → (js : List ℕ) → goes-on b (side s) (number (b .wide) p) js ≡ true → Connects b (side s)
   led-way s (first {p} on e) js go = (number (b .wide) p ∷ js, way-from b (side s) (number (b .wide) p) js (at-first s p on e) (stone s p on) go)
   led-way s (more {p} {q} led near on) js go =
-      let o = led-on s led in
+      let o = end-on s led in
       led-way s led (number (b .wide) q ∷ js)
       (goes-on-from b (side s) (number (b .wide) p) (number (b .wide) q) js
       (touch (b .wide) p q (o .top) (on .top) (o .left) (on .left) (o .right) (on .right) near) (stone s q on) go)
@@ -87,7 +92,7 @@ module _ (b : Board) (g : Good b) (none : empties (b .cells) ≡ 0) where
   -- A row of cells to the last border is a way.
   across-way : (s : Bool) → Across (b .wide) (b .wide) colour s → Connects b (side s)
   unfolding goes-on
-  across-way s (p, led, e) = led-way s led [] (at-last s p (led-on s led) e)
+  across-way s (p, led, e) = led-way s led [] (at-last s p (end-on s led) e)
 
 -- Never neither: the line between the two sides' cells ends at the last border of one of them.
 pub never-neither : Never-neither

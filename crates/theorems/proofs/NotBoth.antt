@@ -1,15 +1,14 @@
 -- Not both sides can force that they connect.
 use mathlib.Core.Path.{_≡_, refl, sym, subst₂}
-use mathlib.Core.Logic.{_⊎_, inl, inr, _≢_}
-use Prim.Native.Nat.{ℕ, _<_, _-_}
+use Prim.Native.Nat.{ℕ, _<_}
 use native.Mathlib.Omega.{arith}
-use lib.ListN.{length, getD, set}
+use lib.ListN.{length}
 use Rattle.std.proofs.shelf.Lists.{length-set}
 use Rattle.hex.specs.Board.{Board, at, Connects, empties, put, other}
 use Rattle.hex.specs.Games.{Forces, has, mine, theirs}
 use Rattle.hex.specs.Promise.{Good}
 use Rattle.theorems.proofs.Stones.{Against, turned-about, is-other, set-each, some-empty, good-put}
-use Rattle.theorems.proofs.Ways.{Carries, carried}
+use Rattle.theorems.proofs.Ways.{carried}
 use Rattle.theorems.proofs.NeverBoth.{never-both-of}
 
 -- Who has connected has connected for good: no stone is moved.
@@ -27,6 +26,7 @@ data By (r : ℕ) (b : Board) (t : ℕ) : Type 0 where
   by-move : t ≡ r → (i : ℕ) → i < length (b .cells) → at b i ≡ 0 → Forces r (put b r i) (other r) → By r b t
   by-answers : t ≡ other r → 0 < empties (b .cells) → ((i : ℕ) → i < length (b .cells) → at b i ≡ 0 → Forces r (put b (other r) i) r) → By r b t
 
+-- Each way to force is of one of these forms.
 by : (r : ℕ) → {b : Board} {t : ℕ} → Forces r b t → By r b t
 by r (has t w) = by-way w
 by r (mine i h z f) = by-move refl i h z f

@@ -3,7 +3,7 @@ use mathlib.Core.Path.{_≡_, refl, sym, subst₂, _∙_}
 use mathlib.Core.Bool.{true}
 use mathlib.Core.Logic.{_⊎_, inl, inr, ⊎-elim, _≢_}
 use mathlib.Core.List.{List, [], _∷_}
-use Prim.Native.Nat.{ℕ, zero, suc, _+_, _-_, _≤_, _<_}
+use Prim.Native.Nat.{ℕ, zero, suc, _<_}
 use native.Mathlib.Omega.{arith}
 use lib.Dec.{ltb}
 use lib.ListN.{length, getD, set}
@@ -81,6 +81,7 @@ good-at [] k e = omega arith
 good-at (x ∷ l) zero e = grind (arith, tells)
 good-at (x ∷ l) (suc k) e = good-at l k (and-parts (ltb x 3) (good-cells l) e .1)
 
+-- So it stays when one is changed.
 good-set : (l : List ℕ) (i x : ℕ) → x < 3 → good-cells l ≡ true → good-cells (set l i x) ≡ true
 unfolding good-cells
 good-set [] i x h e = e

@@ -1,5 +1,5 @@
 -- A way taken apart into its facts, put together from them, and carried from one board to another.
-use mathlib.Core.Path.{_≡_, refl}
+use mathlib.Core.Path.{_≡_}
 use mathlib.Core.Bool.{Bool, true, _&&_}
 use mathlib.Core.List.{List, [], _∷_, map}
 use Prim.Native.Nat.{ℕ, _<_}
@@ -17,6 +17,7 @@ Stone b s i = (i < length (b .cells)) × (at b i ≡ s)
 abbrev steps : Board → ℕ → ℕ → Bool → Bool → Bool
 steps b s i first rest = (first && (ltb i (length (b .cells)) && eqb (at b i) s)) && rest
 
+-- The test says the three facts, and they say the test.
 steps-true : (b : Board) (s i : ℕ) (first rest : Bool) → steps b s i first rest ≡ true → (first ≡ true) × Stone b s i × (rest ≡ true)
 steps-true b s i first rest e = grind (arith, tells)
 
@@ -28,6 +29,7 @@ pub goes-on-parts : (b : Board) (s i j : ℕ) (js : List ℕ) → goes-on b s i 
 unfolding goes-on
 goes-on-parts b s i j js e = steps-true b s j (next-to (b .wide) i j) (goes-on b s j js) e
 
+-- And with such a stone it goes on.
 pub goes-on-from : (b : Board) (s i j : ℕ) (js : List ℕ) → next-to (b .wide) i j ≡ true → Stone b s j → goes-on b s j js ≡ true → goes-on b s i (j ∷ js) ≡ true
 unfolding goes-on
 goes-on-from b s i j js n h e = true-steps b s j (next-to (b .wide) i j) (goes-on b s j js) n h e
@@ -37,6 +39,7 @@ pub way-parts : (b : Board) (s i : ℕ) (is : List ℕ) → is-way b s (i ∷ is
 unfolding is-way
 way-parts b s i is e = steps-true b s i (begins (b .wide) s i) (goes-on b s i is) e
 
+-- And with such a stone it begins.
 pub way-from : (b : Board) (s i : ℕ) (is : List ℕ) → begins (b .wide) s i ≡ true → Stone b s i → goes-on b s i is ≡ true → is-way b s (i ∷ is) ≡ true
 unfolding is-way
 way-from b s i is f h e = true-steps b s i (begins (b .wide) s i) (goes-on b s i is) f h e
@@ -58,6 +61,7 @@ module _ {b c : Board} {s r : ℕ} {f : ℕ → ℕ} (over : Carries b c s r f) 
       let p = goes-on-parts b s i j js e in
       goes-on-from c r (f i) (f j) (map f js) (over .next i j h (p .1 .0) (p .0)) (over .stone j (p .1)) (carried-on j js (p .1 .0) (p .2))
 
+  -- So does the whole way.
   carried-way : (is : List ℕ) → is-way b s is ≡ true → is-way c r (map f is) ≡ true
   unfolding is-way
   carried-way [] e = e

@@ -1,4 +1,4 @@
-use Rattle.theorems.proofs.Decided.{first-wins, second-loses}
+use Rattle.theorems.proofs.FirstWins.{first-wins, second-loses}
 use Rattle.theorems.proofs.first_wins.Needs as need
 
 pub returns : need.returns
