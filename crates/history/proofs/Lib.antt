@@ -1,1 +1,3 @@
 pub mod Turns
+pub mod Filling
+pub mod Keeping

@@ -6,7 +6,7 @@ use lib.Dec.{eqb}
 use lib.ListN.{length, getD, take}
 use Rattle.hex.specs.Board.{pick, all-cells, other}
 use Rattle.hex.specs.Games as games
-use Rattle.groups.specs.Words.{words}
+use Rattle.hex.specs.Words.{words}
 use Rattle.groups.specs.Forest.{held}
 use Rattle.groups.specs.Moves.{board-of, turn-of, forest-of, Legal}
 use Rattle.groups.specs.Meaning.{Open}
