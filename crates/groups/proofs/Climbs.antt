@@ -48,6 +48,15 @@ unfolding climb
 climb-on ps zero j i = rw zero-add
 climb-on ps (suc k) j i = rw suc-add (climb-on ps k j (parent ps i))
 
+-- What is left to climb is left from the parent, one step less.
+pub climb-step : (ps : List ℕ) (k m i above : ℕ) → m ≡ suc k → above ≡ parent ps i → climb ps k above ≡ climb ps m i
+unfolding climb
+climb-step ps k m i above e p = ap (climb ps k) p ∙ ap (λ j. climb ps j i) (sym e)
+
+pub climb-none : (ps : List ℕ) (m i : ℕ) → m ≡ 0 → i ≡ climb ps m i
+unfolding climb
+climb-none ps m i e = rw e
+
 -- Past a root there is nothing to climb.
 climb-enough : (ps : List ℕ) (k m i : ℕ) → k ≤ m → parent ps (climb ps k i) ≡ climb ps k i → climb ps m i ≡ climb ps k i
 climb-enough ps k m i l e =

@@ -1,3 +1,4 @@
+pub mod Bytes
 pub mod Climbs
 pub mod Chains
 pub mod Marks
@@ -8,3 +9,4 @@ pub mod Ways
 pub mod Lifting
 pub mod Positions
 pub mod Theorems
+pub mod Clearing

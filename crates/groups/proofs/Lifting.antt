@@ -3,7 +3,8 @@ use mathlib.Core.Path.{_≡_, refl, sym, ap, _∙_}
 use mathlib.Core.Logic.{_≢_, _⊎_, inl, inr, ⊎-elim}
 use mathlib.Core.Bool.{Bool, true, false}
 use mathlib.Core.List.{List}
-use Prim.Native.Nat.{ℕ, zero, suc, _≤_, _<_}
+use Prim.Native.Nat.{ℕ, zero, suc, _+_, _≤_, _<_}
+use native.Mathlib.Numerals.{add-one}
 use native.Mathlib.Omega.{arith}
 use lib.Dec.{eqb}
 use lib.ListN.{length, getD, set}
@@ -14,14 +15,10 @@ use Rattle.std.proofs.shelf.Tests.{cases-eq, cases-lt}
 use Rattle.std.proofs.shelf.Ways.{tells}
 use Rattle.hex.specs.Board.{pick, Board, at}
 use Rattle.hex.specs.Rows.{Chain, Stone}
-use Rattle.groups.specs.Forest.{Forest, parent, root, join, take-in, adopt, alone, free, lift}
+use Rattle.groups.specs.Forest.{Forest, parent, root, join, take-in, adopt, alone, freed, free, lift}
 use Rattle.groups.proofs.Chains.{last-own}
 use Rattle.groups.proofs.Climbs.{Rooted, climb-root, root-top, root-parent}
 use Rattle.groups.proofs.Placing.{Grouped, stone-here}
-
--- cell i, whose parent is p, when whoever hangs from x has been freed
-abbrev pub freed : ℕ → ℕ → ℕ → ℕ
-freed x i p = pick (eqb p x) i p
 
 pub free-length : (x k : ℕ) (ps : List ℕ) → length (free x k ps) ≡ length ps
 unfolding free
@@ -43,6 +40,24 @@ free-behind x (suc k) i ps l h =
     (λ d. getD-set-other (free x k ps) k i _ i d ∙ free-behind x k i ps (omega arith) (omega arith))
     (cases-eq i k)
 
+-- One cell more is looked at: it hangs from x and is freed, or it does not and stays.
+free-more : (x k : ℕ) (ps ws new : List ℕ) → ws ≡ free x k ps → new ≡ set ws k (freed x k (parent ws k)) → new ≡ free x (k + 1) ps
+unfolding free
+free-more x k ps ws new e h = rw add-one (h ∙ ap (λ qs. set qs k (freed x k (parent qs k))) e)
+
+pub free-hit : (x k : ℕ) (ps ws new : List ℕ) → ws ≡ free x k ps → parent ws k ≡ x → new ≡ set ws k k → new ≡ free x (k + 1) ps
+free-hit x k ps ws new e is h =
+    let root-again : k ≡ freed x k (parent ws k) = grind (arith, tells) in free-more x k ps ws new e (h ∙ ap (set ws k) root-again)
+
+pub free-miss : (x k : ℕ) (ps ws : List ℕ) → ws ≡ free x k ps → (parent ws k ≡ x → ⊥) → ws ≡ free x (k + 1) ps
+free-miss x k ps ws e isnt =
+    let as-was : parent ws k ≡ freed x k (parent ws k) = grind (arith, tells) in
+    free-more x k ps ws ws e (sym (set-getD ws k k) ∙ ap (set ws k) as-was)
+
+pub free-none : (x : ℕ) (ps : List ℕ) → ps ≡ free x 0 ps
+unfolding free
+free-none x ps = refl
+
 -- the parents qs are ps but for roots that have come to hang from x
 pub record Taken (x : ℕ) (ps qs : List ℕ) : Type 0 where
   pub long : length qs ≡ length ps
@@ -52,13 +67,13 @@ freed-back : (x i p q : ℕ) → (q ≡ p) ⊎ ((q ≡ x) × (p ≡ i)) → (p �
 freed-back x i p q h nobody = grind (arith, tells)
 
 -- Where nobody else hung from x, freeing gives back what was.
-pub given-back : (x : ℕ) (ps qs : List ℕ) → Taken x ps qs → ((i : ℕ) → parent ps i ≡ x → i ≡ x) → free x (length qs) qs ≡ ps
-given-back x ps qs t nobody =
-    same-lists (free x (length qs) qs) ps (free-length x (length qs) qs ∙ t .long)
+pub given-back : (x k : ℕ) (ps qs : List ℕ) → k ≡ length ps → Taken x ps qs → ((i : ℕ) → parent ps i ≡ x → i ≡ x) → free x k qs ≡ ps
+given-back x k ps qs all t nobody =
+    same-lists (free x k qs) ps (free-length x k qs ∙ t .long)
     (λ i d l.
-    let on : i < length qs = omega (arith, free-length x (length qs) qs) in
-    getD-default (free x (length qs) qs) i d i l
-    ∙ free-behind x (length qs) i qs on (omega arith)
+    let on : i < k = omega (arith, free-length x k qs, t .long) in
+    getD-default (free x k qs) i d i l
+    ∙ free-behind x k i qs on (omega (arith, t .long))
     ∙ freed-back x i (parent ps i) (parent qs i) (t .each i) (nobody i)
     ∙ getD-default ps i i d (omega (arith, t .long)))
 
@@ -124,11 +139,11 @@ nobody-hangs {near} b f g x free i e =
 
 -- Taking out the stone that came last to a cell that was empty leaves the forest as it was.
 pub lifted : {near : ℕ → ℕ → Bool} {bits : ℕ → ℕ → ℕ} (b : Board) (f : Forest) → Grouped near bits b f → (s x m v : ℕ) (next : ℕ → Option ℕ) → at b x ≡ 0 →
-    ((m : ℕ) → Rooted (adopt b s x next m (alone x v f) .parents)) → lift x (adopt b s x next m (alone x v f)) ≡ f
+    ((m : ℕ) → Rooted (adopt b s x next m (alone x v f) .parents)) → lift (length (b .cells)) x (adopt b s x next m (alone x v f)) ≡ f
 lifted b f g s x m v next free rooted = λ i. record { parents = ps i; borders = bs i }
   where
-    ps : lift x (adopt b s x next m (alone x v f)) .parents ≡ f .parents
-    ps = given-back x (f .parents) _ (all-taken b s x v next f rooted m) (nobody-hangs b f g x free)
+    ps : lift (length (b .cells)) x (adopt b s x next m (alone x v f)) .parents ≡ f .parents
+    ps = given-back x (length (b .cells)) (f .parents) _ (sym (g .parent-each)) (all-taken b s x v next f rooted m) (nobody-hangs b f g x free)
 
-    bs : lift x (adopt b s x next m (alone x v f)) .borders ≡ f .borders
+    bs : lift (length (b .cells)) x (adopt b s x next m (alone x v f)) .borders ≡ f .borders
     bs = cleared b s x v next f rooted m ∙ ap (set (f .borders) x) (sym (g .lone x free .1)) ∙ set-getD (f .borders) x 0

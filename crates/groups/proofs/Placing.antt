@@ -3,7 +3,8 @@ use mathlib.Core.Path.{_≡_, refl, sym, ap, subst, subst₂, _∙_}
 use mathlib.Core.Logic.{_≢_, _⊎_, inl, inr, ⊎-elim}
 use mathlib.Core.Bool.{Bool, true}
 use mathlib.Core.List.{List}
-use Prim.Native.Nat.{ℕ, zero, suc, _<_}
+use Prim.Native.Nat.{ℕ, zero, suc, _+_, _<_}
+use native.Mathlib.Numerals.{add-one}
 use native.Mathlib.Omega.{arith}
 use lib.Dec.{eqb}
 use lib.ListN.{length, getD, set}
@@ -26,6 +27,15 @@ Touching near b i j = (t : ℕ) × (t ≢ 0) × Stone b t i × Stone b t j × (n
 -- the forest's groups are those of the board: any two stones of a side that are near each other have met
 abbrev pub Grouped : (ℕ → ℕ → Bool) → (ℕ → ℕ → ℕ) → Board → Forest → Type 0
 Grouped near bits b f = Groups near bits b (Touching near b) f
+
+-- One neighbour more is looked at.
+pub adopt-none : (b : Board) (s x : ℕ) (next : ℕ → Option ℕ) (f : Forest) → f ≡ adopt b s x next 0 f
+unfolding adopt
+adopt-none b s x next f = refl
+
+pub adopt-more : (b : Board) (s x : ℕ) (next : ℕ → Option ℕ) (k : ℕ) (f h new : Forest) → h ≡ adopt b s x next k f → new ≡ take-in b s x (next k) h → new ≡ adopt b s x next (k + 1) f
+unfolding adopt
+adopt-more b s x next k f h new e t = rw add-one (t ∙ ap (take-in b s x (next k)) e)
 
 -- What an option holds it holds once, and nothing is not something.
 some-once : {i j : ℕ} → Some i ≡ Some j → i ≡ j

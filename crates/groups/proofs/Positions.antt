@@ -12,7 +12,7 @@ use Rattle.std.proofs.shelf.Lists.{length-set}
 use Rattle.std.proofs.shelf.Tests.{and-parts, and-from}
 use Rattle.std.proofs.shelf.Ways.{tells}
 use Rattle.hex.specs.Board.{Board, at, all-cells, empty, put, other, next-to}
-use Rattle.hex.specs.Geometry.{neighbour-of, touch}
+use Rattle.hex.specs.Geometry.{neighbour-of, touch, laid}
 use Rattle.hex.specs.Rows.{Stone}
 use Rattle.std.specs.declared.option.Option.the-variants.{Some}
 use Rattle.hex.proofs.Neighbours.{neighbour-next, neighbour-all, next-symmetric}
@@ -73,7 +73,7 @@ module _ (p : Position) (x : ℕ) (ok : Sound p) (is : is-free (p .board) x ≡ 
       }
 
   -- Taking the stone out again leaves the forest as it was.
-  pub moved-back : lift x (moved p x .forest) ≡ p .forest
+  pub moved-back : lift (length (p .board .cells)) x (moved p x .forest) ≡ p .forest
   moved-back =
       lifted b (p .forest) (ok .holds) s x 6 (touch (b .wide) s x) (neighbour-of (b .wide) x) (free-parts b x is .1)
       (growing-ends b s x (no-empty s (ok .side)) on (free-parts b x is .1) (ok .holds) (next-symmetric (b .wide)) (neighbour-of (b .wide) x) (neighbour-next (b .wide) x))
@@ -85,7 +85,7 @@ count-at i zero j = refl
 count-at i (suc k) zero = omega arith
 count-at i (suc k) (suc j) = let e : i + suc j ≡ suc i + j = omega arith in rw e (count-at (suc i) k j)
 
-count-length : (i k : ℕ) → length (count-from i k) ≡ k
+pub count-length : (i k : ℕ) → length (count-from i k) ≡ k
 unfolding count-from
 count-length i zero = refl
 count-length i (suc k) = ap suc (count-length (suc i) k)
@@ -102,7 +102,7 @@ empty-length zero = refl
 empty-length (suc k) = ap suc (empty-length k)
 
 -- Where there are no stones each cell is its own root.
-bare-parent : (k i : ℕ) → parent (bare k .parents) i ≡ i
+pub bare-parent : (k i : ℕ) → parent (bare k .parents) i ≡ i
 bare-parent k i = rw zero-add at (count-at 0 k i)
 
 no-stones : (n t i : ℕ) → t ≢ 0 → Stone (empty n) t i → ⊥
@@ -156,3 +156,16 @@ legal-push n ms x h is = fair-push (start n) ms x ∙ and-from _ _ h is
 
 pub legal-last : (n : ℕ) (ms : List ℕ) (x : ℕ) → Legal n (ms ++ (x ∷ [])) → Legal n ms × (is-free (board-of n ms) x ≡ true)
 legal-last n ms x h = and-parts (is-fair (start n) ms) (is-free (board-of n ms) x) (sym (fair-push (start n) ms x) ∙ h)
+
+-- Boards stay as wide as they are, and have all their cells.
+pub played-wide : (p : Position) (ms : List ℕ) → played p ms .board .wide ≡ p .board .wide
+unfolding played
+played-wide p [] = refl
+played-wide p (x ∷ ms) = played-wide (moved p x) ms
+
+pub board-cells : (n : ℕ) (ms : List ℕ) → Legal n ms → length (board-of n ms .cells) ≡ n * n
+board-cells n ms h = legal-sound n ms h .square ∙ ap (λ w. w * w) (played-wide (start n) ms)
+
+-- Cells that are those of the board that the moves lead to lie on that board.
+pub board-laid : (n : ℕ) (ms cells : List ℕ) → cells ≡ board-of n ms .cells → laid n cells ≡ board-of n ms
+board-laid n ms cells e = λ i. record { wide = sym (played-wide (start n) ms) i; cells = e i }

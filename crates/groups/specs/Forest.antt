@@ -57,11 +57,15 @@ alone x bits f = record { parents = f .parents; borders = set (f .borders) x bit
 abbrev pub place : Board → ℕ → ℕ → Forest → Forest
 place b s x f = adopt b s x (neighbour-of (b .wide) x) 6 (alone x (touch (b .wide) s x) f)
 
--- those of the first k cells that hang from x are roots again
+-- the parent of cell i, which was p, once whoever hangs from x is a root again
+abbrev pub freed : ℕ → ℕ → ℕ → ℕ
+freed x i p = pick (eqb p x) i p
+
+-- the first k cells are looked at, and those that hang from x are roots again
 unfoldable pub free : ℕ → ℕ → List ℕ → List ℕ
 free x zero ps = ps
-free x (suc k) ps = let qs = free x k ps in set qs k (pick (eqb (parent qs k) x) k (parent qs k))
+free x (suc k) ps = let qs = free x k ps in set qs k (freed x k (parent qs k))
 
--- the last stone, on cell x, is taken out: the groups that it joined are apart again, and its cell is empty
-abbrev pub lift : ℕ → Forest → Forest
-lift x f = record { parents = free x (length (f .parents)) (f .parents); borders = set (f .borders) x 0 }
+-- the last stone, on cell x of so many, is taken out: the groups that it joined are apart again, and its cell has no bits
+abbrev pub lift : ℕ → ℕ → Forest → Forest
+lift cells x f = record { parents = free x cells (f .parents); borders = set (f .borders) x 0 }

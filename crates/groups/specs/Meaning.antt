@@ -48,7 +48,7 @@ One-byte-decides =
 
 -- The last stone taken out leaves the groups as they were before it.
 abbrev pub Back-again : Type 0
-Back-again = (n : ℕ) (ms : List ℕ) (x : ℕ) → Legal n (ms ++ (x ∷ [])) → lift x (forest-of n (ms ++ (x ∷ []))) ≡ forest-of n ms
+Back-again = (n : ℕ) (ms : List ℕ) (x : ℕ) → Legal n (ms ++ (x ∷ [])) → lift (n * n) x (forest-of n (ms ++ (x ∷ []))) ≡ forest-of n ms
 
 -- The numbers in memory tell its bytes: as many bytes, in pairs, that hold the same numbers are the same bytes.
 abbrev pub Bytes-told : Type 0
