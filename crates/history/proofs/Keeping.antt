@@ -8,16 +8,14 @@ use native.Mathlib.Omega.{arith}
 use lib.ListN.{length, getD, set, take}
 use Rattle.std.proofs.shelf.Lists.{append-assoc, length-append, length-push, set-at, set-getD, set-set, take-append-le, take-at}
 use Rattle.std.proofs.str.Laws.{order}
-use Rattle.hex.specs.Board.{Board, at, all-cells}
-use Rattle.hex.specs.Geometry.{laid}
+use Rattle.hex.specs.Board.{all-cells}
 use Rattle.hex.specs.Words.{words}
-use Rattle.groups.specs.Forest.{Forest, held, place, lift}
-use Rattle.groups.specs.Moves.{Position, start, moved, is-free, position-of, board-of, turn-of, forest-of, Legal}
+use Rattle.groups.specs.Forest.{held}
+use Rattle.groups.specs.Moves.{start, is-free, board-of, turn-of, forest-of, Legal}
 use Rattle.groups.specs.Meaning.{Open}
-use Rattle.groups.proofs.Positions.{played-push, legal-push, legal-last, legal-sound, free-parts}
-use Rattle.groups.proofs.Theorems.{back-again}
+use Rattle.groups.proofs.Positions.{played-push, legal-push, legal-last, free-parts}
 use Rattle.history.specs.Played.{Played, winner-of, Kept}
-use Rattle.history.proofs.Filling.{room, board-laid}
+use Rattle.history.proofs.Filling.{room}
 use Rattle.history.proofs.Turns.{winner-open}
 
 -- a move more, if nobody has won and the cell is free
@@ -59,38 +57,33 @@ log-less log ms x k e =
 module _ (n : ℕ) (ms : List ℕ) (x : ℕ) (stones log parents borders log′ parents′ borders′ : List ℕ) where
   pub kept-more : Kept n ms stones log parents borders → Legal n ms → is-free (board-of n ms) x ≡ true →
       words log′ ≡ set (words log) (length ms) x → length log′ ≡ length log →
-      held parents′ borders′ ≡ place (laid n stones) (turn-of n ms) x (held parents borders) → length parents′ ≡ length parents →
+      held parents′ borders′ ≡ forest-of n (ms ++ x ∷ []) → length parents′ ≡ length parents →
       Kept n (ms ++ x ∷ []) (set stones x (turn-of n ms)) log′ parents′ borders′
   kept-more h legal is wrote log-same joined parents-same =
-      let push = played-push (start n) ms x in
       let free = room n ms x legal is in
       let less : n * n - length ms - 1 ≡ n * n - length (ms ++ x ∷ []) = omega (arith, length-push ms x) in
       record {
-        stones-are = ap (λ (cs : List ℕ). set cs x (turn-of n ms)) (h .stones-are) ∙ ap (λ p. p .board .cells) (sym push);
-        log-is = wrote ∙ (log-less (words log) ms x _ (h .log-is) ∙ ap (λ k. ms ++ all-cells k) more);
+        stones-are = ap (λ (cs : List ℕ). set cs x (turn-of n ms)) (h .stones-are) ∙ ap (λ p. p .board .cells) (sym (played-push (start n) ms x));
+        log-is = wrote ∙ (log-more (words log) ms x (n * n - length ms) (h .log-is) (omega arith) ∙ ap (λ k. (ms ++ x ∷ []) ++ all-cells k) less);
         log-long = log-same ∙ h .log-long;
-        groups-are =
-            joined ∙ (ap (λ b. place b (turn-of n ms) x (held parents borders)) (board-laid n ms stones (h .stones-are)) ∙
-            (ap (place (board-of n ms) (turn-of n ms) x) (h .groups-are) ∙ ap (λ p. p .forest) (sym push)));
+        groups-are = joined;
         parents-long = parents-same ∙ h .parents-long;
       }
 
   pub kept-less : Kept n (ms ++ x ∷ []) stones log parents borders → Legal n (ms ++ x ∷ []) →
       words log′ ≡ set (words log) (length ms) 0 → length log′ ≡ length log →
-      held parents′ borders′ ≡ lift x (held parents borders) → length parents′ ≡ length parents →
-      Kept n ms (set stones x 0) log′ parents′ borders′
+      held parents′ borders′ ≡ forest-of n ms → length parents′ ≡ length parents → Kept n ms (set stones x 0) log′ parents′ borders′
   kept-less h legal wrote log-same lifted parents-same =
-      let push = played-push (start n) ms x in
       let (before, is) = legal-last n ms x legal in
       let free = free-parts (board-of n ms) x is in
       let some = room n ms x before is in
       let more : suc (n * n - length (ms ++ x ∷ [])) ≡ n * n - length ms = omega (arith, length-push ms x) in
       record {
         stones-are =
-            ap (λ (cs : List ℕ). set cs x 0) (h .stones-are ∙ ap (λ p. p .board .cells) push) ∙
+            ap (λ (cs : List ℕ). set cs x 0) (h .stones-are ∙ ap (λ p. p .board .cells) (played-push (start n) ms x)) ∙
             (set-set (board-of n ms .cells) x (turn-of n ms) 0 ∙ (ap (set (board-of n ms .cells) x) (sym (free .1)) ∙ set-getD (board-of n ms .cells) x 0));
         log-is = wrote ∙ (log-less (words log) ms x _ (h .log-is) ∙ ap (λ k. ms ++ all-cells k) more);
         log-long = log-same ∙ h .log-long;
-        groups-are = lifted ∙ (ap (lift x) (h .groups-are) ∙ back-again n ms x legal);
+        groups-are = lifted;
         parents-long = parents-same ∙ h .parents-long;
       }
