@@ -2,3 +2,4 @@ pub mod Filling
 pub mod Keeping
 pub mod Serving
 pub mod Turns
+pub mod Taking

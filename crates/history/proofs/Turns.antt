@@ -95,7 +95,7 @@ module _ (n : ℕ) (ms : List ℕ) (x : ℕ) (h : Played n (ms ++ x ∷ [])) whe
   abbrev mover : ℕ
   mover = turn-of n ms
 
-  open-before : Open (board-of n ms)
+  pub open-before : Open (board-of n ms)
   open-before =
       let short : length ms < length (ms ++ x ∷ []) = omega (arith, length-push ms x) in
       subst (λ (xs : List ℕ). Open (board-of n xs)) (take-at ms (x ∷ []) (length ms) refl) (h .before (length ms) short)
