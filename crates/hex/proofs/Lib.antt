@@ -1,3 +1,4 @@
 pub mod Boards
 pub mod Neighbours
 pub mod Pairs
+pub mod TwoBytes

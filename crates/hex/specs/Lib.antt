@@ -5,3 +5,4 @@ pub mod Geometry
 pub mod Rows
 pub mod Sides
 pub mod Stones
+pub mod Words

@@ -3,6 +3,7 @@ mod geometry;
 mod side;
 mod size;
 mod stones;
+mod words;
 
 pub use geometry::borders;
 pub use geometry::directions;
@@ -22,3 +23,5 @@ pub use stones::first_pair;
 pub use stones::lift;
 pub use stones::place;
 pub use stones::stone;
+pub use words::set_word;
+pub use words::word;
