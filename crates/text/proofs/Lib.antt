@@ -1,0 +1,3 @@
+mod Asked
+mod Numbers
+mod Words
