@@ -7,7 +7,7 @@ use native.Mathlib.Omega.{arith}
 use lib.Chars.{codes}
 use lib.ListN.{length, take, drop}
 use Rattle.std.proofs.shelf.Lists.{take-rest}
-use Rattle.wire.specs.declared.Call.the-variants.{Move, Back, Who, CanForce}
+use Rattle.wire.specs.declared.call.Call.the-variants.{Move, Back, Who, CanForce}
 use Rattle.text.specs.declared.reading.Line.the-variants as line
 use Rattle.text.specs.Lines.{Decimal, Some-decimal, Numbered, Some-numbered, Says, Some-word, Asks, Readable}
 use Rattle.text.specs.Places.{Agree, Stops}

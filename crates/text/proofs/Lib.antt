@@ -1,3 +1,4 @@
 mod Asked
 mod Numbers
+mod Spelled
 mod Words

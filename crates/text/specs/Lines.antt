@@ -7,8 +7,8 @@ use Prim.Native.Nat.{ℕ, _+_, _-_, _*_, _<_, _≤_}
 use lib.ListN.{length}
 use lib.Chars.{codes}
 use Rattle.std.specs.shelf.Text.{allDigits}
-use Rattle.wire.specs.declared.Call.{Call}
-use Rattle.wire.specs.declared.Call.the-variants.{Move, Back, Who, CanForce}
+use Rattle.wire.specs.declared.call.Call.{Call}
+use Rattle.wire.specs.declared.call.Call.the-variants.{Move, Back, Who, CanForce}
 use Rattle.text.specs.declared.reading.Line.{Line}
 use Rattle.text.specs.declared.reading.Line.the-variants as line
 

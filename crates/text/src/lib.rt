@@ -3,3 +3,5 @@ mod reading;
 
 pub use reading::Line;
 pub use reading::read_line;
+
+mod writing;

@@ -1,10 +1,10 @@
-// Calls, as values.
+// Calls and answers, as values and as bytes.
+mod answer;
+mod call;
+mod refusal;
 
-// What is asked of the desk.
-#[derive(Clone, Copy, PartialEq, Eq, Debug)]
-pub enum Call {
-    Move(u16),
-    Back,
-    Who,
-    CanForce,
-}
+pub use answer::Answer;
+pub use call::Call;
+pub use call::CallDebug;
+pub use call::CallPartialEq;
+pub use refusal::Refusal;
