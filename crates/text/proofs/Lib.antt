@@ -1,3 +1,4 @@
+mod Again
 mod Asked
 mod Numbers
 mod Spelled

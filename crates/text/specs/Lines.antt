@@ -1,4 +1,4 @@
--- The lines of text that can be read, and what each asks for. Definitions only.
+-- The lines of text that can be read, what each asks for, and the one that is written for it. Definitions only.
 use mathlib.Core.Path.{_≡_}
 use mathlib.Core.Bool.{true}
 use mathlib.Core.Logic.{_⊎_}
@@ -6,6 +6,7 @@ use mathlib.Core.List.{List, [], _∷_, _++_}
 use Prim.Native.Nat.{ℕ, _+_, _-_, _*_, _<_, _≤_}
 use lib.ListN.{length}
 use lib.Chars.{codes}
+use Rattle.std.specs.Written.{decimal}
 use Rattle.std.specs.shelf.Text.{allDigits}
 use Rattle.wire.specs.declared.call.Call.{Call}
 use Rattle.wire.specs.declared.call.Call.the-variants.{Move, Back, Who, CanForce}
@@ -63,3 +64,27 @@ Asks bytes (line.Call c) = Says bytes c
 -- a line that can be read
 abbrev pub Readable : List ℕ → Type 0
 Readable bytes = (l : Line) × Asks bytes l
+
+-- the line that is written for a call, without its end: `move 5`
+abbrev pub said-by : Call → List ℕ
+said-by (Move c) = codes "move " ++ decimal c
+said-by Back = codes "back"
+said-by Who = codes "who"
+said-by CanForce = codes "can force"
+
+-- the line that is written, without its end: `board 3`, or that of a call
+abbrev pub asked-by : Line → List ℕ
+asked-by (line.Board n) = codes "board " ++ decimal n
+asked-by (line.Call c) = said-by c
+
+-- a call whose number has two bytes
+abbrev pub Small-call : Call → Type 0
+Small-call (Move c) = c ≤ 65535
+Small-call Back = Unit {0}
+Small-call Who = Unit {0}
+Small-call CanForce = Unit {0}
+
+-- a line whose number has two bytes, as every line of the code
+abbrev pub Small : Line → Type 0
+Small (line.Board n) = n ≤ 65535
+Small (line.Call c) = Small-call c

@@ -1,7 +1,13 @@
 // Calls and answers as lines of text.
+mod laws;
 mod reading;
-
-pub use reading::Line;
-pub use reading::read_line;
-
 mod writing;
+
+pub use laws::lines_are_read_back;
+pub use laws::lines_ask_one_thing;
+pub use reading::Line;
+pub use reading::LineDebug;
+pub use reading::LinePartialEq;
+pub use reading::read_line;
+pub use writing::write_answer;
+pub use writing::write_line;

@@ -7,8 +7,9 @@ ghost use lib.Chars.{codes};
 ghost use Rattle.std.specs.Numbers.{Checked};
 ghost use Rattle.std.specs.Results.{Cases};
 ghost use Rattle.std.specs.Text.{asciiDigit};
-ghost use Rattle.text.specs.Lines.{with-digit, Decimal, Some-decimal, Word, Numbered, Some-numbered, Says, Some-word, Asks, Readable};
+ghost use Rattle.text.specs.Lines.{with-digit, Decimal, Some-decimal, Word, Numbered, Some-numbered, Says, Some-word};
 ghost use Rattle.text.specs.Places.{Agree, Stops};
+ghost use Rattle.text.specs.Readings.{Reads};
 use wire::Call;
 use wire::CallDebug;
 use wire::CallPartialEq;
@@ -22,7 +23,7 @@ pub enum Line {
 
 // What the line asks for, or the place of its first byte that does not fit.
 pub fn read_line(line: &[u8]) -> Result<Line, usize>
-    ensures { λ r. ⌜ Cases r (λ l. Asks (now (line .entry)) l) (λ p. Stops Readable (now (line .entry)) p) ⌝ }
+    ensures { λ r. ⌜ Reads (now (line .entry)) r ⌝ }
 {
     let board = match number_after(b"board ", line) {
         Ok(n) => return Ok(Line::Board(n)),

@@ -1,4 +1,4 @@
-// Writes answers as lines of text.
+// Writes lines of text: what is asked, and what is answered.
 ghost use mathlib.Core.Path.{_≡_};
 ghost use mathlib.Core.List.{List, _++_};
 ghost use Prim.Native.Nat.{ℕ, _*_, _≤_};
@@ -13,11 +13,36 @@ ghost use Rattle.hex.specs.Sides.{number};
 ghost use Rattle.wire.specs.Formal.{told};
 ghost use Rattle.wire.specs.Numbers.{words, reason};
 ghost use Rattle.text.specs.Answers.{line-of, spaced};
+ghost use Rattle.text.specs.Lines.{Numbered, Asks, asked-by};
+use crate::reading::Line;
 use hex::Side;
 use std::fmt;
 use std::fmt::Write;
 use wire::Answer;
+use wire::Call;
 use wire::Refusal;
+
+// Adds the line that asks for this, without its end.
+pub fn write_line(out: &mut String, line: Line) -> fmt::Result
+    ensures added { λ r. ⌜ made r (λ _. string-bytes (now (out .exit)) ≡ string-bytes (now (out .entry)) ++ asked-by line) ⌝ }
+    ensures asks { λ _. ⌜ Asks (asked-by line) line ⌝ }
+{
+    match line {
+        Line::Board(n) => write_numbered(out, "board ", n),
+        Line::Call(Call::Move(cell)) => write_numbered(out, "move ", cell),
+        Line::Call(Call::Back) => out.write_str("back"),
+        Line::Call(Call::Who) => out.write_str("who"),
+        Line::Call(Call::CanForce) => out.write_str("can force"),
+    }
+}
+
+// Adds the word and the number behind it, which together are read as that number behind that word.
+fn write_numbered(out: &mut String, word: &str, n: u16) -> fmt::Result
+    ensures added { λ r. ⌜ made r (λ _. string-bytes (now (out .exit)) ≡ string-bytes (now (out .entry)) ++ (now (word .entry) ++ decimal n)) ⌝ }
+    ensures asks { λ _. ⌜ Numbered (now (word .entry)) n (now (word .entry) ++ decimal n) ⌝ }
+{
+    write!(out, "{word}{n}")
+}
 
 // Adds the line of an answer, without its end.
 pub fn write_answer(out: &mut String, answer: Answer<'_>) -> fmt::Result
