@@ -1,8 +1,11 @@
-// Calls and answers as lines of text.
+// Calls, answers and boards as text.
+mod drawing;
 mod laws;
 mod reading;
 mod writing;
 
+pub use drawing::write_board;
+pub use drawing::write_outcome;
 pub use laws::lines_are_read_back;
 pub use laws::lines_ask_one_thing;
 pub use reading::Line;
