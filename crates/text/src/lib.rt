@@ -2,6 +2,8 @@
 mod drawing;
 mod laws;
 mod reading;
+#[cfg(test)]
+mod tests;
 mod writing;
 
 pub use drawing::write_board;
