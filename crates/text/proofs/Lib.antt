@@ -1,0 +1,7 @@
+mod Added
+mod Again
+mod Asked
+mod Numbers
+mod Pairs
+mod Spelled
+mod Words
