@@ -17,7 +17,7 @@ use Rattle.hex.specs.Words.{words, word-of}
 use Rattle.hex.proofs.Boards.{length-all-cells}
 use Rattle.hex.proofs.TwoBytes.{words-length}
 use Rattle.groups.specs.Forest.{held}
-use Rattle.groups.specs.Moves.{start, bare, played, is-fair, board-of, turn-of, forest-of, Legal}
+use Rattle.groups.specs.Moves.{start, played, is-fair, board-of, turn-of, forest-of, Legal}
 use Rattle.groups.specs.Meaning.{Open}
 use Rattle.groups.proofs.Positions.{legal-last, free-parts, played-push}
 use Rattle.history.specs.Played.{game-of, Played, winner-of, Kept}
@@ -127,7 +127,7 @@ words-zero (suc k) =
 
 -- cleared memory holds a game without moves
 pub new-held : (g : Game) (m : Memory) → g .count ≡ 0 → won-by (g .winner) ≡ 0 → m .stones ≡ all-cells (g .size .n * g .size .n) →
-    m .log ≡ all-cells (g .size .n * g .size .n * 2) → held (m .parents) (m .borders) ≡ bare (g .size .n * g .size .n) →
+    m .log ≡ all-cells (g .size .n * g .size .n * 2) → held (m .parents) (m .borders) ≡ forest-of (g .size .n) [] →
     length (m .parents) ≡ g .size .n * g .size .n * 2 → Holds g m × (formal g m ≡ games.new-game (g .size .n))
 unfolding played is-fair
 new-held g m none nobody stones log groups parents =

@@ -1,4 +1,5 @@
 use mathlib.Core.Path.{refl, sym, ap, _∙_}
+use mathlib.Core.Logic.{inl}
 use mathlib.Core.List.{List}
 use Prim.Native.Nat.{ℕ, _%_}
 use native.Mathlib.Omega.{arith}
@@ -43,5 +44,5 @@ returns c =
     let turn = c .turn-side .ensures ∙ sym (mover (c .args .game) m (c .pre) (c .args .cell)) in
     served-made (c .args .game) m (c .pre) (c .args .cell) _ _ refl refl (told .0) (ap won-by (c .in-None .is)) (sym (told .1) ∙ c .in-0 .is)
     (ap (set (c .args .stones .now) (c .args .cell)) (c .number .ensures ∙ turn)) (c .set-word .ensures .after) (omega (arith, c .set-word .kept .bytes))
-    (c .place .ensures .grows _ (c .pre .kept .stones-are) turn (c .pre .kept .groups-are)) (omega (arith, c .place .kept .parents))
+    (c .place .ensures .grows _ (inl (c .pre .kept .stones-are)) turn (c .pre .kept .groups-are)) (omega (arith, c .place .kept .parents))
     (c .winner-by .ensures ∙ ap (λ s. pick (eqb (getD (c .place .last .borders) (c .args .cell) 0 % 4) 3) s 0) turn)
