@@ -94,6 +94,27 @@ pub fn start(
 }
 
 impl Game {
+    // How large the board is.
+    pub fn size(self) -> Size
+        ensures { λ r. ⌜ r ≡ self .size ⌝ }
+    {
+        self.size
+    }
+
+    // How many moves were made.
+    pub fn count(self) -> u16
+        ensures { λ r. ⌜ r ≡ self .count ⌝ }
+    {
+        self.count
+    }
+
+    // Who has won.
+    pub fn winner(self) -> Option<Side>
+        ensures { λ r. ⌜ r ≡ self .winner ⌝ }
+    {
+        self.winner
+    }
+
     // The side that moves next: side 1 after an even number of moves.
     pub fn turn(self) -> Side
         ensures { λ r. ⌜ number r ≡ pick (eqb (self .count % 2) 0) 1 2 ⌝ }

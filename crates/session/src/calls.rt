@@ -1,0 +1,109 @@
+// Opening a desk, and its calls. Each answer is right by the rules for the games before and after it.
+ghost use mathlib.Core.Path.{_≡_};
+ghost use Prim.Native.Nat.{ℕ, _<_, _≤_};
+ghost use Rattle.std.specs.Results.{Cases};
+ghost use Rattle.hex.specs.Games as games;
+ghost use Rattle.history.specs.Holds.{won-by};
+ghost use Rattle.history.specs.Played.{winner-of};
+ghost use Rattle.session.specs.Desks.{desk-game, told, Opened};
+use crate::desk::Desk;
+use crate::desk::Unopened;
+use hex::Side;
+use hex::Size;
+use std::alloc::AllocError;
+use std::alloc::Global;
+use wire::Refusal;
+
+impl Desk {
+    // A new game on a board n wide and n tall, n from 1 to 19. All memory that it will ever need is asked for here.
+    pub fn open(heap: Global, n: u16) -> Result<Desk, Unopened>
+        ensures { λ r. ⌜ Opened n r ⌝ }
+    {
+        let Some(size) = Size::new(n) else {
+            return Err(Unopened::Refused(Refusal::BadSize));
+        };
+        let Ok(desk) = Desk::of_size(heap, size) else {
+            return Err(Unopened::NoMemory);
+        };
+        Ok(desk)
+    }
+
+    fn of_size(heap: Global, size: Size) -> Result<Desk, AllocError>
+        ensures { λ r. ⌜ Cases r (λ d. desk-game d ≡ games.new-game (size .n)) (λ _. Unit {0}) ⌝ }
+    {
+        let cells = size.cells() as usize;
+        let mut stones = vec![in heap; 0; cells]?;
+        let mut log = vec![in heap; 0; cells * 2]?;
+        let mut parents = vec![in heap; 0; cells * 2]?;
+        let mut borders = vec![in heap; 0; cells]?;
+        let game = history::start(size, &mut stones, &mut log, &mut parents, &mut borders);
+        Ok(Desk {
+            game,
+            stones,
+            log,
+            parents,
+            borders,
+        })
+    }
+
+    // Puts a stone of the side to move on a cell: the move's number, from 0.
+    pub fn make_move(&mut self, cell: u16) -> Result<u16, Refusal>
+        ensures { λ r. ⌜ games.Right (desk-game (now (self .entry))) (games.moves cell) (told r) (desk-game (now (self .exit))) ⌝ }
+    {
+        let number = self.game.count();
+        match history::make_move(
+            self.game,
+            cell,
+            &mut self.stones,
+            &mut self.log,
+            &mut self.parents,
+            &mut self.borders,
+        ) {
+            Ok(game) => {
+                self.game = game;
+                Ok(number)
+            }
+            Err(why) => Err(why),
+        }
+    }
+
+    // Takes the last move back: how many moves are left.
+    pub fn take_back(&mut self) -> Result<u16, Refusal>
+        ensures { λ r. ⌜ games.Right (desk-game (now (self .entry))) games.back (told r) (desk-game (now (self .exit))) ⌝ }
+    {
+        match history::take_back(
+            self.game,
+            &mut self.stones,
+            &mut self.log,
+            &mut self.parents,
+            &mut self.borders,
+        ) {
+            Ok(game) => {
+                self.game = game;
+                Ok(game.count())
+            }
+            Err(why) => Err(why),
+        }
+    }
+
+    // Who has won.
+    pub fn winner(&self) -> Option<Side>
+        ensures { λ r. ⌜ won-by r ≡ winner-of (now (self .entry) .game .size .n) (desk-game (now (self .entry)) .moves) ⌝ }
+    {
+        self.game.winner()
+    }
+
+    // The board's size.
+    pub fn size(&self) -> Size
+        ensures { λ r. ⌜ r .n ≡ desk-game (now (self .entry)) .board .wide ⌝ }
+    {
+        self.game.size()
+    }
+
+    // The stones, a byte for each cell: 0, 1 or 2.
+    pub fn cells(&self) -> &[u8]
+        ensures { λ r. ⌜ now r ≡ desk-game (now (self .entry)) .board .cells ⌝ }
+    {
+        &self.stones
+    }
+}
