@@ -14,6 +14,7 @@ pub use reading::LinePartialEq;
 pub use reading::read_line;
 pub use writing::write_answer;
 pub use writing::write_line;
+pub use writing::write_refusal;
 
 #[cfg(test)]
 mod tests {

@@ -58,7 +58,8 @@ pub fn write_answer(out: &mut String, answer: Answer<'_>) -> fmt::Result
     }
 }
 
-fn write_refusal(out: &mut String, why: Refusal) -> fmt::Result
+// Adds the line of a refusal.
+pub fn write_refusal(out: &mut String, why: Refusal) -> fmt::Result
     ensures { λ r. ⌜ made r (λ _. string-bytes (now (out .exit)) ≡ string-bytes (now (out .entry)) ++ (codes "refused " ++ (decimal (reason why .number) ++ (codes " at " ++ decimal (reason why .place))))) ⌝ }
 {
     let number = why.number();

@@ -1,0 +1,132 @@
+// One line in, one line out.
+ghost use mathlib.Core.Path.{_≡_};
+ghost use mathlib.Core.List.{List, _++_};
+ghost use Prim.Native.Nat.{ℕ, _<_, _≤_};
+ghost use lib.Chars.{codes};
+ghost use Rattle.std.specs.Of.String.{string-bytes};
+ghost use Rattle.std.specs.Vec.{made};
+ghost use Rattle.std.specs.Written.{decimal};
+ghost use Rattle.wire.specs.Formal.{asked, told as answered};
+ghost use Rattle.text.specs.Answers.{line-of};
+ghost use Rattle.session.specs.Desks.{desk-game, told};
+ghost use Rattle.hex.specs.Games as games;
+use session::Desk;
+use session::Unopened;
+use std::alloc::Global;
+use std::fmt;
+use std::fmt::Write;
+use text::Line;
+use text::read_line;
+use text::write_refusal;
+use wire::Call;
+use wire::Refusal;
+
+// There is no memory for the line that is to be written, or for the board.
+#[derive(Clone, Copy, Debug)]
+pub struct Failed;
+
+impl From<fmt::Error> for Failed as FailedFrom {
+    fn from(_: fmt::Error) -> Self {
+        Failed
+    }
+}
+
+// Adds the answer to a move or to a take-back.
+fn write_told(out: &mut String, result: Result<u16, Refusal>) -> fmt::Result
+    ensures { λ r. ⌜ made r (λ _. string-bytes (now (out .exit)) ≡ string-bytes (now (out .entry)) ++ line-of (told result)) ⌝ }
+{
+    match result {
+        Ok(number) => write!(out, "{number}"),
+        Err(why) => write_refusal(out, why),
+    }
+}
+
+// Adds that a line cannot be read, and the place of its first byte that does not fit.
+fn write_unreadable(out: &mut String, place: usize) -> fmt::Result
+    ensures { λ r. ⌜ made r (λ _. string-bytes (now (out .exit)) ≡ string-bytes (now (out .entry)) ++ (codes "refused 1 at " ++ decimal place)) ⌝ }
+{
+    write!(out, "refused 1 at {place}")
+}
+
+// Adds what opening a board is answered by.
+fn write_opened(out: &mut String, n: u16) -> fmt::Result
+    ensures { λ r. ⌜ made r (λ _. string-bytes (now (out .exit)) ≡ string-bytes (now (out .entry)) ++ (codes "board " ++ decimal n)) ⌝ }
+{
+    write!(out, "board {n}")
+}
+
+// A board no larger than the program serves, or none where n is out of range.
+fn open(heap: Global, largest: u16, n: u16) -> Result<Option<Desk>, Failed> {
+    if n > largest {
+        return Ok(None);
+    }
+    match Desk::open(heap, n) {
+        Ok(desk) => Ok(Some(desk)),
+        Err(Unopened::Refused(_)) => Ok(None),
+        Err(Unopened::NoMemory) => Err(Failed),
+    }
+}
+
+// A line before the first board: only `board N` is served.
+pub fn first_line(
+    heap: Global,
+    largest: u16,
+    line: &[u8],
+    out: &mut String,
+) -> Result<Option<Desk>, Failed> {
+    let Ok(Line::Board(n)) = read_line(line) else {
+        write_unreadable(out, 0)?;
+        return Ok(None);
+    };
+    let opened = open(heap, largest, n)?;
+    if opened.is_some() {
+        write_opened(out, n)?;
+    } else {
+        write_refusal(out, Refusal::BadSize)?;
+    }
+    Ok(opened)
+}
+
+// A line on the board there is.
+pub fn next_line(
+    heap: Global,
+    largest: u16,
+    desk: &mut Desk,
+    line: &[u8],
+    out: &mut String,
+) -> Result<(), Failed> {
+    match read_line(line) {
+        Err(place) => write_unreadable(out, place)?,
+        Ok(Line::Board(n)) => reopen(heap, largest, n, desk, out)?,
+        Ok(Line::Call(call)) => serve(desk, call, out)?,
+    }
+    Ok(())
+}
+
+// A new board in the place of the one there is, unless n is out of range.
+fn reopen(
+    heap: Global,
+    largest: u16,
+    n: u16,
+    desk: &mut Desk,
+    out: &mut String,
+) -> Result<(), Failed> {
+    match open(heap, largest, n)? {
+        Some(opened) => {
+            *desk = opened;
+            write_opened(out, n)?;
+        }
+        None => write_refusal(out, Refusal::BadSize)?,
+    }
+    Ok(())
+}
+
+// A call on the board there is.
+fn serve(desk: &mut Desk, call: Call, out: &mut String) -> fmt::Result {
+    match call {
+        Call::Move(cell) => write_told(out, desk.make_move(cell)),
+        Call::Back => write_told(out, desk.take_back()),
+        Call::Who => write_unreadable(out, 0),
+        Call::CanForce => write_unreadable(out, 0),
+    }
+}
