@@ -10,9 +10,11 @@ ghost use Rattle.wire.specs.Formal.{asked, told as answered};
 ghost use Rattle.text.specs.Answers.{line-of};
 ghost use Rattle.session.specs.Desks.{desk-game, told};
 ghost use Rattle.hex.specs.Games as games;
+ghost use Rattle.driver.specs.Served.{trimmed};
 use session::Desk;
 use session::Unopened;
 use std::alloc::Global;
+use std::error::Error;
 use std::fmt;
 use std::fmt::Write;
 use text::Line;
@@ -25,7 +27,15 @@ use wire::Refusal;
 #[derive(Clone, Copy, Debug)]
 pub struct Failed;
 
-impl From<fmt::Error> for Failed as FailedFrom {
+pub impl fmt::Display for Failed as FailedDisplay {
+    fn fmt<W: fmt::Write>(&self, f: &mut fmt::Formatter<W>) -> fmt::Result {
+        f.write_str("there is no memory")
+    }
+}
+
+pub impl Error for Failed as FailedError {}
+
+pub impl From<fmt::Error> for Failed as FailedFrom {
     fn from(_: fmt::Error) -> Self {
         Failed
     }
@@ -128,5 +138,34 @@ fn serve(desk: &mut Desk, call: Call, out: &mut String) -> fmt::Result {
         Call::Back => write_told(out, desk.take_back()),
         Call::Who => write_unreadable(out, 0),
         Call::CanForce => write_unreadable(out, 0),
+    }
+}
+
+// A line, with the board there is or none yet; the board that there is then. A carriage return at its end is left out.
+pub fn answer_line(
+    heap: Global,
+    largest: u16,
+    desk: Option<Desk>,
+    line: &[u8],
+    out: &mut String,
+) -> Result<Option<Desk>, Failed> {
+    match desk {
+        None => first_line(heap, largest, without_return(line), out),
+        Some(mut desk) => {
+            next_line(heap, largest, &mut desk, without_return(line), out)?;
+            Ok(Some(desk))
+        }
+    }
+}
+
+// The line without the carriage return that some files have before each line's end.
+fn without_return(line: &[u8]) -> &[u8]
+    ensures { λ r. ⌜ now r ≡ trimmed (now (line .entry)) ⌝ }
+{
+    let len = line.len();
+    if len > 0 && line[len - 1] == b'\r' {
+        &line[0..len - 1]
+    } else {
+        line
     }
 }
