@@ -10,7 +10,7 @@ ghost use Rattle.wire.specs.Formal.{asked, told as answered};
 ghost use Rattle.text.specs.Answers.{line-of};
 ghost use Rattle.session.specs.Desks.{desk-game, told};
 ghost use Rattle.hex.specs.Games as games;
-ghost use Rattle.driver.specs.Served.{trimmed};
+ghost use Rattle.driver.specs.Served.{trimmed, Opens};
 use session::Desk;
 use session::Unopened;
 use std::alloc::Global;
@@ -66,7 +66,9 @@ fn write_opened(out: &mut String, n: u16) -> fmt::Result
 }
 
 // A board no larger than the program serves, or none where n is out of range.
-fn open(heap: Global, largest: u16, n: u16) -> Result<Option<Desk>, Failed> {
+fn open(heap: Global, largest: u16, n: u16) -> Result<Option<Desk>, Failed>
+    ensures { λ r. ⌜ made r (Opens largest n) ⌝ }
+{
     if n > largest {
         return Ok(None);
     }
