@@ -1,6 +1,6 @@
 -- A board and who has won, as text. Definitions only.
 use mathlib.Core.Path.{_≡_}
-use mathlib.Core.Bool.{Bool, true, false, _||_}
+use mathlib.Core.Bool.{Bool, false, _||_}
 use mathlib.Core.List.{List, [], _∷_, _++_}
 use Prim.Native.Nat.{ℕ, zero, suc, _+_, _*_, _<_}
 use lib.Chars.{codes}
@@ -12,8 +12,8 @@ use Rattle.hex.specs.Board.{pick}
 use Rattle.hex.specs.declared.side.Side.{Side}
 use Rattle.hex.specs.declared.side.Side.the-variants.{One, Two}
 
--- A cell is shown by one character: `.` if it is empty, else the number of the side whose stone stands on it. Stones on a way are
--- marked by a letter in place of the number, `A` for side 1 and `B` for side 2.
+-- A cell is shown by one character: the number of the side whose stone stands on it, or `.` if there is no stone of a side. Stones
+-- on a way are marked by a letter in place of the number, `A` for side 1 and `B` for side 2.
 abbrev pub mark : ℕ → Bool → List ℕ
 mark stone marked =
     pick (eqb stone 1) (pick marked (codes "A") (codes "1"))
