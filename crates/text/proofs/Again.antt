@@ -1,8 +1,7 @@
 -- A line asks for one thing only and stops at one place only, and what is written is read again.
-use mathlib.Core.Path.{_≡_, refl, sym, ap, subst, _∙_}
-use mathlib.Core.Logic.{⊎-elim}
+use mathlib.Core.Path.{_≡_, refl, sym, ap, _∙_}
 use mathlib.Core.Bool.{true}
-use mathlib.Core.List.{List, [], _∷_, _++_}
+use mathlib.Core.List.{List, _++_}
 use Prim.Native.Nat.{ℕ, _^_, _<_, _≤_}
 use native.Mathlib.Omega.{arith}
 use borrow.Author.Needs.{needs}
@@ -10,19 +9,17 @@ use lib.Chars.{codes}
 use lib.Dec.{eqb}
 use lib.ListN.{getD, drop}
 use Rattle.std.specs.Written.{decimal}
-use Rattle.std.specs.declared.result.Result.{Result}
 use Rattle.std.specs.declared.result.Result.the-variants.{Ok, Err}
 use Rattle.std.specs.shelf.Text.{allDigits}
 use Rattle.std.proofs.shelf.Decimals.{decimal-some, digits-decimal, value-decimal}
 use Rattle.std.proofs.shelf.Numerals.{Numerals, numerals-by-fold}
-use Rattle.std.proofs.str.Laws.{order}
 use Rattle.hex.specs.Board.{pick}
 use Rattle.wire.specs.declared.call.Call.the-variants.{Move, Back, Who, CanForce}
 use Rattle.text.specs.declared.reading.Line.{Line}
 use Rattle.text.specs.declared.reading.Line.the-variants as line
 use Rattle.text.specs.Lines.{value, Decimal, Numbered, Asks, Readable, asked-by, Small}
 use Rattle.text.specs.Places.{Stops}
-use Rattle.text.specs.Readings.{Reads, One-thing, One-answer, Read-back}
+use Rattle.text.specs.Readings.{One-thing, One-answer, Read-back}
 
 -- what a line that can be read asks for, worked out from its bytes: the third one tells the words apart
 abbrev meant : List ℕ → Line

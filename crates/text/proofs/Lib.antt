@@ -1,6 +1,7 @@
 mod Added
 mod Again
 mod Asked
+mod Columns
 mod Numbers
 mod Pairs
 mod Spelled

@@ -1,18 +1,19 @@
 -- A board and who has won, as text. Definitions only.
-use mathlib.Core.Bool.{Bool, true, false, _||_}
+use mathlib.Core.Path.{_≡_}
+use mathlib.Core.Bool.{Bool, false, _||_}
 use mathlib.Core.List.{List, [], _∷_, _++_}
-use Prim.Native.Nat.{ℕ, zero, suc, _+_, _*_}
+use Prim.Native.Nat.{ℕ, zero, suc, _+_, _*_, _<_}
 use lib.Chars.{codes}
 use lib.Dec.{eqb}
-use lib.ListN.{getD}
+use lib.ListN.{length, getD}
 use Rattle.std.specs.declared.option.Option.{Option}
 use Rattle.std.specs.declared.option.Option.the-variants.{Some, None}
 use Rattle.hex.specs.Board.{pick}
 use Rattle.hex.specs.declared.side.Side.{Side}
 use Rattle.hex.specs.declared.side.Side.the-variants.{One, Two}
 
--- A cell is shown by one character: `.` if it is empty, else the number of the side whose stone stands on it. Stones on a way are
--- marked by a letter in place of the number, `A` for side 1 and `B` for side 2.
+-- A cell is shown by one character: the number of the side whose stone stands on it, or `.` if there is no stone of a side. Stones
+-- on a way are marked by a letter in place of the number, `A` for side 1 and `B` for side 2.
 abbrev pub mark : ℕ → Bool → List ℕ
 mark stone marked =
     pick (eqb stone 1) (pick marked (codes "A") (codes "1"))
@@ -50,6 +51,16 @@ row-line n cells way r = spaces r ++ (row-cells n cells way r ++ codes "\n")
 -- a board n wide and n tall, with the cells of a way marked; cells that are missing are shown as empty
 abbrev pub board-lines : ℕ → List ℕ → List ℕ → List ℕ
 board-lines n cells way = each n (row-line n cells way)
+
+-- In the line of row r the cell of column c is the character at place r + 2 * c, and nothing stands behind the last cell but the
+-- line's end. So the cell to the right of a cell stands two characters on, the cell below it one on, and that below and to the left
+-- one back: cells next to each other on the board are next to each other in the text.
+pub record Laid-out (n : ℕ) (cells way : List ℕ) (r : ℕ) : Type 0 where
+  pub long : length (row-line n cells way r) ≡ r + 2 * n
+  pub places : (c : ℕ) → c < n → getD (row-line n cells way r) (r + 2 * c) 0 ≡ getD (mark (getD cells (r * n + c) 0) (among way (r * n + c))) 0 0
+
+abbrev pub Rows-laid-out : Type 0
+Rows-laid-out = (n : ℕ) (cells way : List ℕ) (r : ℕ) → 0 < n → Laid-out n cells way r
 
 -- the line that says who has won, without its end
 abbrev pub outcome-line : Option Side → List ℕ

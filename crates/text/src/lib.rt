@@ -8,6 +8,7 @@ pub use drawing::write_board;
 pub use drawing::write_outcome;
 pub use laws::lines_are_read_back;
 pub use laws::lines_ask_one_thing;
+pub use laws::rows_are_laid_out;
 pub use reading::Line;
 pub use reading::LineDebug;
 pub use reading::LinePartialEq;
