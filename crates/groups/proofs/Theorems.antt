@@ -15,14 +15,15 @@ use Rattle.hex.specs.Rows.{Stone, Row}
 use Rattle.hex.proofs.Neighbours.{next-symmetric}
 use Rattle.groups.specs.Forest.{Forest, held, root, place, lift}
 use Rattle.groups.specs.Moves.{Position, start, moved, is-free, position-of, board-of, turn-of, forest-of, Legal, Kept, Held-around}
-use Rattle.groups.specs.Meaning.{Just-if, Both, Together, Joined, Open, One-byte-decides, Back-again}
+use Rattle.groups.specs.Meaning.{Just-if, Both, Together, Joined, Open, One-byte-decides, Back-again, Kept-once}
 use Rattle.groups.specs.Meaning.{One-more, One-fewer, Tells-rows, Tells-winner}
+use Rattle.groups.proofs.Bytes.{same-bytes}
 use Rattle.groups.proofs.Spanning.{same-root, spans, byte-decides, other-as-before}
 use Rattle.groups.proofs.Ways.{connects}
 use Rattle.groups.proofs.Positions.{Sound, no-empty, other-side, of-both, free-parts, moved-top, moved-sound, moved-back}
 use Rattle.groups.proofs.Positions.{legal-none, legal-sound, legal-last, nothing-first, played-push, board-cells, board-laid, board-push, forest-push, place-alike}
 
--- One statement follows from another just if those that they stand for do.
+-- Each of two statements that hold just if a third does holds just if the other does.
 just-if : {P Q R : Type 0} → Just-if P Q → Just-if Q R → Just-if P R
 just-if h k = (λ p. k .0 (h .0 p), λ r. h .1 (k .1 r))
 
@@ -104,6 +105,10 @@ memory-grows n cells s x ps bs ps′ bs′ e ms around turn kept =
 -- and those of the moves without the last after its stone has been taken out.
 pub memory-back : (n x : ℕ) (ps bs ps′ bs′ : List ℕ) → held ps′ bs′ ≡ lift (n * n) x (held ps bs) → One-fewer n x ps bs ps′ bs′
 memory-back n x ps bs ps′ bs′ e ms legal kept = e ∙ ap (lift (n * n) x) kept ∙ back-again n ms x legal
+
+pub kept-once : Kept-once
+kept-once n ms ps bs qs cs p q kept again =
+    (same-bytes (n * n) ps qs (p .many) (q .many) (p .small) (q .small) (ap (λ f. f .parents) (kept ∙ sym again)), ap (λ f. f .borders) (kept ∙ sym again))
 
 -- On the board without stones nobody has connected,
 pub open-first : (n : ℕ) → Open (board-of n [])

@@ -8,7 +8,6 @@ use lib.ListN.{length, getD}
 use Rattle.std.specs.Orderings.{Decides}
 use Rattle.hex.specs.Board.{Board, Connects, other}
 use Rattle.hex.specs.Rows.{Stone, Row}
-use Rattle.groups.specs.Words.{words}
 use Rattle.groups.specs.Forest.{Forest, parent, root, lift}
 use Rattle.groups.specs.Moves.{board-of, turn-of, forest-of, Legal, Kept, Held-around}
 
@@ -53,11 +52,15 @@ abbrev pub Back-again : Type 0
 Back-again =
     (n : ℕ) (ms : List ℕ) (x : ℕ) → Legal n (ms ++ (x ∷ [])) → lift (n * n) x (forest-of n (ms ++ (x ∷ []))) ≡ forest-of n ms
 
--- The numbers in memory tell its bytes: as many bytes, in pairs, that hold the same numbers are the same bytes.
-abbrev pub Bytes-told : Type 0
-Bytes-told =
-    (k : ℕ) (xs ys : List ℕ) → length xs ≡ k * 2 → length ys ≡ k * 2 →
-    ((i : ℕ) → getD xs i 0 < 256) → ((i : ℕ) → getD ys i 0 < 256) → words xs ≡ words ys → xs ≡ ys
+-- as many bytes as the parents of a board n wide take
+pub record Bytes (n : ℕ) (ps : List ℕ) : Type 0 where
+  pub many : length ps ≡ n * n * 2
+  pub small : (i : ℕ) → getD ps i 0 < 256
+
+-- The moves tell every byte: memory that keeps their groups is the same, however it came about.
+abbrev pub Kept-once : Type 0
+Kept-once =
+    (n : ℕ) (ms ps bs qs cs : List ℕ) → Bytes n ps → Bytes n qs → Kept n ms ps bs → Kept n ms qs cs → (ps ≡ qs) × (bs ≡ cs)
 
 -- What the functions on lent memory tell. The memory is ps for the parents and bs for the bits, and primed after a call.
 

@@ -9,7 +9,7 @@ ghost use Rattle.hex.specs.Sides.{number};
 ghost use Rattle.groups.specs.Words.{words};
 ghost use Rattle.groups.specs.Forest.{held, parent, root, join, take-in, place, lift};
 ghost use Rattle.groups.specs.Moves.{Kept};
-ghost use Rattle.groups.specs.Meaning.{Together, Joined, One-byte-decides, Back-again, Bytes-told};
+ghost use Rattle.groups.specs.Meaning.{Together, Joined, One-byte-decides, Back-again, Kept-once};
 ghost use Rattle.groups.specs.Meaning.{One-more, One-fewer, Tells-rows, Tells-winner};
 use hex::Side;
 use hex::Size;
@@ -98,7 +98,7 @@ pub fn groups_have_meaning()
     ensures joined { λ _. ⌜ Joined ⌝ }
     ensures decides { λ _. ⌜ One-byte-decides ⌝ }
     ensures back { λ _. ⌜ Back-again ⌝ }
-    ensures told { λ _. ⌜ Bytes-told ⌝ }
+    ensures told { λ _. ⌜ Kept-once ⌝ }
 {}
 
 // Looks at the k-th neighbour of a cell: a stone of the side brings its group.
