@@ -8,7 +8,6 @@ use lib.ListN.{length, getD, set}
 use Rattle.std.proofs.shelf.Lists.{ext-getD, getD-past, set-past}
 use Rattle.std.proofs.shelf.Tests.{cases-eq}
 use Rattle.groups.specs.Words.{words}
-use Rattle.groups.specs.Meaning.{Bytes-told}
 
 -- There is a number for each pair of bytes.
 pub words-length : (bs : List ℕ) → length (words bs) ≡ length bs / 2
@@ -51,8 +50,8 @@ pub write-past : (bs : List ℕ) (i v : ℕ) → length bs ≤ i * 2 + 1 → set
 write-past bs i v l = set-past (words bs) i v (word-past bs i l)
 
 -- Each pair of bytes can be told from its number, so all bytes can.
-pub bytes-told : Bytes-told
-bytes-told k xs ys lx ly bx by e =
+pub same-bytes : (k : ℕ) (xs ys : List ℕ) → length xs ≡ k * 2 → length ys ≡ k * 2 → ((i : ℕ) → getD xs i 0 < 256) → ((i : ℕ) → getD ys i 0 < 256) → words xs ≡ words ys → xs ≡ ys
+same-bytes k xs ys lx ly bx by e =
     ext-getD 0 xs ys (lx ∙ sym ly) (λ j l.
     let p = pair (j / 2) (omega arith) in
     ⊎-elim

@@ -128,7 +128,8 @@ module _ (b : Board) (s x bits : ℕ) (next : ℕ → Option ℕ) (f : Forest) (
   cleared (suc m) = cleared-in _ (next m) ∙ cleared m
 
 -- Nobody hangs from an empty cell.
-pub nobody-hangs : {near : ℕ → ℕ → Bool} {bits : ℕ → ℕ → ℕ} (b : Board) (f : Forest) → Grouped near bits b f → (x : ℕ) → at b x ≡ 0 → (i : ℕ) → parent (f .parents) i ≡ x → i ≡ x
+pub nobody-hangs : {near : ℕ → ℕ → Bool} {bits : ℕ → ℕ → ℕ} (b : Board) (f : Forest) → Grouped near bits b f →
+    (x : ℕ) → at b x ≡ 0 → (i : ℕ) → parent (f .parents) i ≡ x → i ≡ x
 nobody-hangs {near} b f g x free i e =
     ⊎-elim (λ none. sym (g .lone i none .0) ∙ e)
     (λ some.

@@ -28,17 +28,19 @@ Touching near b i j = (t : ℕ) × (t ≢ 0) × Stone b t i × Stone b t j × (n
 abbrev pub Grouped : (ℕ → ℕ → Bool) → (ℕ → ℕ → ℕ) → Board → Forest → Type 0
 Grouped near bits b f = Groups near bits b (Touching near b) f
 
--- One neighbour more is looked at.
+-- No neighbour has been looked at, or one more.
 pub adopt-none : (b : Board) (s x : ℕ) (next : ℕ → Option ℕ) (f : Forest) → f ≡ adopt b s x next 0 f
 unfolding adopt
 adopt-none b s x next f = refl
 
-pub adopt-more : (b : Board) (s x : ℕ) (next : ℕ → Option ℕ) (k : ℕ) (f h new : Forest) → h ≡ adopt b s x next k f → new ≡ take-in b s x (next k) h → new ≡ adopt b s x next (k + 1) f
+pub adopt-more : (b : Board) (s x : ℕ) (next : ℕ → Option ℕ) (k : ℕ) (f h new : Forest) →
+    h ≡ adopt b s x next k f → new ≡ take-in b s x (next k) h → new ≡ adopt b s x next (k + 1) f
 unfolding adopt
 adopt-more b s x next k f h new e t = rw add-one (t ∙ ap (take-in b s x (next k)) e)
 
 -- Only what lies next to x is looked at: boards that are the same there are the same to it.
-pub adopt-alike : (b c : Board) (s x : ℕ) (next : ℕ → Option ℕ) → ((k y : ℕ) → next k ≡ Some y → at b y ≡ at c y) → (m : ℕ) (f : Forest) → adopt b s x next m f ≡ adopt c s x next m f
+pub adopt-alike : (b c : Board) (s x : ℕ) (next : ℕ → Option ℕ) → ((k y : ℕ) → next k ≡ Some y → at b y ≡ at c y) →
+    (m : ℕ) (f : Forest) → adopt b s x next m f ≡ adopt c s x next m f
 unfolding adopt
 adopt-alike b c s x next same zero f = refl
 adopt-alike b c s x next same (suc m) f = look (next m) refl ∙ ap (take-in c s x (next m)) (adopt-alike b c s x next same m f)
@@ -64,11 +66,13 @@ module _ (b : Board) (s x : ℕ) (side : s ≢ 0) (on : x < length (b .cells)) (
   pub placed : Stone (put b s x) s x
   placed = (rw length-set on, getD-set-same (b .cells) x s 0 on)
 
+  -- An empty cell is no stone's.
+  pub not-taken : (t i : ℕ) → t ≢ 0 → Stone b t i → i ≢ x
+  not-taken t i n h e = n (sym (h .1) ∙ ap (at b) e ∙ free)
+
   -- What stood elsewhere stands there still.
   pub kept : (t i : ℕ) → t ≢ 0 → Stone b t i → Stone (put b s x) t i
-  kept t i n h =
-      let other : i ≢ x = λ e. n (sym (h .1) ∙ ap (at b) e ∙ free) in
-      (rw length-set (h .0), getD-set-other (b .cells) x i s 0 other ∙ h .1)
+  kept t i n h = (rw length-set (h .0), getD-set-other (b .cells) x i s 0 (not-taken t i n h) ∙ h .1)
 
   -- A stone is the new one, or stood there before.
   pub new-or-old : (t i : ℕ) → Stone (put b s x) t i → ((i ≡ x) × (t ≡ s)) ⊎ ((i ≢ x) × Stone b t i)
@@ -83,10 +87,6 @@ module _ (b : Board) (s x : ℕ) (side : s ≢ 0) (on : x < length (b .cells)) (
   empty-still i e =
       let other : i ≢ x = λ same. side (sym (placed .1) ∙ ap (at (put b s x)) (sym same) ∙ e) in
       (other, sym (getD-set-other (b .cells) x i s 0 other) ∙ e)
-
-  -- An empty cell is no stone's.
-  pub not-taken : (t i : ℕ) → t ≢ 0 → Stone b t i → i ≢ x
-  not-taken t i n h e = n (sym (h .1) ∙ ap (at b) e ∙ free)
 
   -- What holds of the new stone and of each old one holds of every stone.
   pub each-stone : (P : ℕ → ℕ → Type 0) → P s x → ((t i : ℕ) → t ≢ 0 → Stone b t i → P t i) → (t i : ℕ) → t ≢ 0 → Stone (put b s x) t i → P t i

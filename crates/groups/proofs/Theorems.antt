@@ -15,12 +15,15 @@ use Rattle.hex.specs.Rows.{Stone, Row}
 use Rattle.hex.proofs.Neighbours.{next-symmetric}
 use Rattle.groups.specs.Forest.{Forest, held, root, place, lift}
 use Rattle.groups.specs.Moves.{Position, start, moved, is-free, position-of, board-of, turn-of, forest-of, Legal, Kept, Held-around}
-use Rattle.groups.specs.Meaning.{Just-if, Both, Together, Joined, Open, One-byte-decides, Back-again}
+use Rattle.groups.specs.Meaning.{Just-if, Both, Together, Joined, Open, One-byte-decides, Back-again, Kept-once}
+use Rattle.groups.specs.Meaning.{One-more, One-fewer, Tells-rows, Tells-winner}
+use Rattle.groups.proofs.Bytes.{same-bytes}
 use Rattle.groups.proofs.Spanning.{same-root, spans, byte-decides, other-as-before}
 use Rattle.groups.proofs.Ways.{connects}
-use Rattle.groups.proofs.Positions.{Sound, no-empty, other-side, of-both, legal-none, nothing-first, free-parts, moved-top, moved-sound, moved-back, played-push, legal-sound, legal-last, board-cells, board-laid, board-push, forest-push, place-alike}
+use Rattle.groups.proofs.Positions.{Sound, no-empty, other-side, of-both, free-parts, moved-top, moved-sound, moved-back}
+use Rattle.groups.proofs.Positions.{legal-none, legal-sound, legal-last, nothing-first, played-push, board-cells, board-laid, board-push, forest-push, place-alike}
 
--- One statement follows from another just if those that they stand for do.
+-- Each of two statements that hold just if a third does holds just if the other does.
 just-if : {P Q R : Type 0} → Just-if P Q → Just-if Q R → Just-if P R
 just-if h k = (λ p. k .0 (h .0 p), λ r. h .1 (k .1 r))
 
@@ -71,37 +74,41 @@ one-byte-decides n ms x h not-yet =
     (move-decides (position-of n ms) x ok is not-yet, move-keeps (position-of n ms) x ok is not-yet)
 
 -- The test of two roots tells whether a row joins two stones.
-pub same-root-tells : (n : ℕ) (ms : List ℕ) (s i j : ℕ) (ps : List ℕ) (r : Bool) → Legal n ms → ps ≡ forest-of n ms .parents → s ≢ 0 → Stone (board-of n ms) s i → Stone (board-of n ms) s j →
-    r ≡ eqb (root ps i) (root ps j) → Decides r (Row (board-of n ms) s i j)
-same-root-tells n ms s i j ps r legal is side o p e =
+pub same-root-tells : (ps : List ℕ) (i j : ℕ) (r : Bool) → r ≡ eqb (root ps i) (root ps j) → Tells-rows ps i j r
+same-root-tells ps i j r e n ms s legal is side o p =
+    let (row, one) = together n ms s i j legal side o p in
     decides-like r
-    (λ same. together n ms s i j legal side o p .0 (sym (ap (λ q. root q i) is) ∙ same ∙ ap (λ q. root q j) is))
-    (λ row. ap (λ q. root q i) is ∙ together n ms s i j legal side o p .1 row ∙ sym (ap (λ q. root q j) is))
+    (λ same. row (sym (ap (λ q. root q i) is) ∙ same ∙ ap (λ q. root q j) is))
+    (λ c. ap (λ q. root q i) is ∙ one c ∙ sym (ap (λ q. root q j) is))
     (decides-at r _ e (decides-eqb (root ps i) (root ps j)))
 
 -- The test of the last stone's byte tells whether its side has connected.
-pub byte-tells : (n : ℕ) (ms : List ℕ) (x : ℕ) (bs : List ℕ) (r : Bool) → Legal n (ms ++ (x ∷ [])) → Open (board-of n ms) → bs ≡ forest-of n (ms ++ (x ∷ [])) .borders →
-    r ≡ eqb (getD bs x 0 % 4) 3 → Decides r (Connects (board-of n (ms ++ (x ∷ []))) (turn-of n ms))
-byte-tells n ms x bs r legal not-yet is e =
+pub byte-tells : (bs : List ℕ) (x : ℕ) (r : Bool) → r ≡ eqb (getD bs x 0 % 4) 3 → Tells-winner bs x r
+byte-tells bs x r e n ms legal not-yet is =
     let (told, _) = one-byte-decides n ms x legal not-yet in
-    let same : getD bs x 0 ≡ getD (forest-of n (ms ++ (x ∷ [])) .borders) x 0 = ap (λ l. getD l x 0) is in
-    decides-like r (λ both. told .1 (ap (λ v. v % 4) (sym same) ∙ both)) (λ c. ap (λ v. v % 4) same ∙ told .0 c) (decides-at r _ e (decides-eqb (getD bs x 0 % 4) 3))
+    let same : getD bs x 0 % 4 ≡ getD (forest-of n (ms ++ (x ∷ [])) .borders) x 0 % 4 = ap (λ l. getD l x 0 % 4) is in
+    decides-like r (λ both. told .1 (sym same ∙ both)) (λ c. same ∙ told .0 c) (decides-at r _ e (decides-eqb (getD bs x 0 % 4) 3))
 
 -- The groups that join a stone are the same whether the cells hold it yet or not.
-pub joins-either : (n : ℕ) (ms cells : List ℕ) (x : ℕ) (f : Forest) → Held-around n ms x cells → place (laid n cells) (turn-of n ms) x f ≡ place (board-of n ms) (turn-of n ms) x f
+pub joins-either : (n : ℕ) (ms cells : List ℕ) (x : ℕ) (f : Forest) → Held-around n ms x cells →
+    place (laid n cells) (turn-of n ms) x f ≡ place (board-of n ms) (turn-of n ms) x f
 joins-either n ms cells x f (inl before) = ap (λ b. place b (turn-of n ms) x f) (board-laid n ms cells before)
 joins-either n ms cells x f (inr after) =
-    ap (λ b. place b (turn-of n ms) x f) (board-laid n (ms ++ (x ∷ [])) cells after ∙ board-push n ms x) ∙ place-alike (board-of n ms) (turn-of n ms) (turn-of n ms) x f
+    ap (λ b. place b (turn-of n ms) x f) (board-laid n (ms ++ (x ∷ [])) cells after ∙ board-push n ms x)
+    ∙ place-alike (board-of n ms) (turn-of n ms) (turn-of n ms) x f
 
 -- Memory that keeps the groups of the moves keeps those of the moves with one more after a stone has come,
-pub memory-grows : (n : ℕ) (ms cells ps bs : List ℕ) (s x : ℕ) (h : Forest) → h ≡ place (laid n cells) s x (held ps bs) → Held-around n ms x cells → s ≡ turn-of n ms → Kept n ms ps bs →
-    h ≡ forest-of n (ms ++ (x ∷ []))
-memory-grows n ms cells ps bs s x h e around turn kept =
+pub memory-grows : (n : ℕ) (cells : List ℕ) (s x : ℕ) (ps bs ps′ bs′ : List ℕ) → held ps′ bs′ ≡ place (laid n cells) s x (held ps bs) → One-more n cells s x ps bs ps′ bs′
+memory-grows n cells s x ps bs ps′ bs′ e ms around turn kept =
     e ∙ (λ i. place (laid n cells) (turn i) x (kept i)) ∙ joins-either n ms cells x (forest-of n ms) around ∙ sym (forest-push n ms x)
 
--- and that of the moves without the last after its stone has been taken out.
-pub memory-back : (n : ℕ) (ms ps bs : List ℕ) (x : ℕ) (h : Forest) → h ≡ lift (n * n) x (held ps bs) → Legal n (ms ++ (x ∷ [])) → Kept n (ms ++ (x ∷ [])) ps bs → h ≡ forest-of n ms
-memory-back n ms ps bs x h e legal kept = e ∙ ap (lift (n * n) x) kept ∙ back-again n ms x legal
+-- and those of the moves without the last after its stone has been taken out.
+pub memory-back : (n x : ℕ) (ps bs ps′ bs′ : List ℕ) → held ps′ bs′ ≡ lift (n * n) x (held ps bs) → One-fewer n x ps bs ps′ bs′
+memory-back n x ps bs ps′ bs′ e ms legal kept = e ∙ ap (lift (n * n) x) kept ∙ back-again n ms x legal
+
+pub kept-once : Kept-once
+kept-once n ms ps bs qs cs p q kept again =
+    (same-bytes (n * n) ps qs (p .many) (q .many) (p .small) (q .small) (ap (λ f. f .parents) (kept ∙ sym again)), ap (λ f. f .borders) (kept ∙ sym again))
 
 -- On the board without stones nobody has connected,
 pub open-first : (n : ℕ) → Open (board-of n [])
@@ -111,7 +118,8 @@ open-first n = (never 1 (no-empty 1 (inl refl)), never 2 (no-empty 2 (inr refl))
     never s side c = let q = joined n [] s (legal-none n) side .0 c in side (sym (q .stone .1) ∙ nothing-first n (q .top))
 
 -- and as long as the last stone's byte has not both bits nobody has.
-pub open-still : (n : ℕ) (ms : List ℕ) (x : ℕ) → Legal n (ms ++ (x ∷ [])) → Open (board-of n ms) → (Both (getD (forest-of n (ms ++ (x ∷ [])) .borders) x 0) → ⊥) → Open (board-of n (ms ++ (x ∷ [])))
+pub open-still : (n : ℕ) (ms : List ℕ) (x : ℕ) → Legal n (ms ++ (x ∷ [])) → Open (board-of n ms) →
+    (Both (getD (forest-of n (ms ++ (x ∷ [])) .borders) x 0) → ⊥) → Open (board-of n (ms ++ (x ∷ [])))
 open-still n ms x legal not-yet isnt =
     let (told, rest) = one-byte-decides n ms x legal not-yet in
     let ok = legal-sound n ms (legal-last n ms x legal .0) in

@@ -1,19 +1,16 @@
 // Groups of stones that hang together, joined as stones come, in lent memory, with the borders they touch.
 ghost use mathlib.Core.Path.{_≡_};
-ghost use mathlib.Core.Logic.{_≢_};
-ghost use mathlib.Core.List.{List, [], _∷_, _++_};
-ghost use Prim.Native.Nat.{ℕ, _*_, _%_, _<_};
+ghost use mathlib.Core.List.{[]};
+ghost use Prim.Native.Nat.{ℕ, _*_, _%_};
 ghost use lib.Dec.{eqb};
 ghost use lib.ListN.{length, getD, set};
-ghost use Rattle.std.specs.Orderings.{Decides};
-ghost use Rattle.hex.specs.Board.{Connects};
 ghost use Rattle.hex.specs.Geometry.{neighbour-of, laid};
-ghost use Rattle.hex.specs.Rows.{Stone, Row};
 ghost use Rattle.hex.specs.Sides.{number};
 ghost use Rattle.groups.specs.Words.{words};
 ghost use Rattle.groups.specs.Forest.{held, parent, root, join, take-in, place, lift};
-ghost use Rattle.groups.specs.Moves.{board-of, turn-of, forest-of, Legal, Kept, Held-around};
-ghost use Rattle.groups.specs.Meaning.{Together, Joined, Open, One-byte-decides, Back-again, Bytes-told};
+ghost use Rattle.groups.specs.Moves.{Kept};
+ghost use Rattle.groups.specs.Meaning.{Together, Joined, One-byte-decides, Back-again, Kept-once};
+ghost use Rattle.groups.specs.Meaning.{One-more, One-fewer, Tells-rows, Tells-winner};
 use hex::Side;
 use hex::Size;
 
@@ -41,7 +38,7 @@ pub fn place(
     borders: &mut [u8],
 )
     ensures value { λ _. ⌜ held (now (parents .exit)) (now (borders .exit)) ≡ place (laid (size .n) (now (cells .entry))) (number side) cell (held (now (parents .entry)) (now (borders .entry))) ⌝ }
-    ensures grows { λ _. ⌜ ((ms : List ℕ) → Held-around (size .n) ms cell (now (cells .entry)) → number side ≡ turn-of (size .n) ms → Kept (size .n) ms (now (parents .entry)) (now (borders .entry)) → Kept (size .n) (ms ++ (cell ∷ [])) (now (parents .exit)) (now (borders .exit))) ⌝ }
+    ensures grows { λ _. ⌜ One-more (size .n) (now (cells .entry)) (number side) cell (now (parents .entry)) (now (borders .entry)) (now (parents .exit)) (now (borders .exit)) ⌝ }
 {
     write(borders, cell, hex::borders(size, side, cell));
     for k in 0..6 {
@@ -52,7 +49,7 @@ pub fn place(
 // The last stone is taken out: the groups that it took in are apart again, and every byte is as it was before it came.
 pub fn lift(size: Size, cell: u16, parents: &mut [u8], borders: &mut [u8])
     ensures value { λ _. ⌜ held (now (parents .exit)) (now (borders .exit)) ≡ lift (size .n * size .n) cell (held (now (parents .entry)) (now (borders .entry))) ⌝ }
-    ensures back { λ _. ⌜ ((ms : List ℕ) → Legal (size .n) (ms ++ (cell ∷ [])) → Kept (size .n) (ms ++ (cell ∷ [])) (now (parents .entry)) (now (borders .entry)) → Kept (size .n) ms (now (parents .exit)) (now (borders .exit))) ⌝ }
+    ensures back { λ _. ⌜ One-fewer (size .n) cell (now (parents .entry)) (now (borders .entry)) (now (parents .exit)) (now (borders .exit)) ⌝ }
 {
     write(borders, cell, 0);
     for below in 0..size.cells() {
@@ -81,7 +78,7 @@ pub fn root(parents: &[u8], cell: u16) -> u16
 // Whether two stones of a side are in one group.
 pub fn same_group(parents: &[u8], one: u16, other: u16) -> bool
     ensures value { λ r. ⌜ r ≡ eqb (root (words (now (parents .entry))) one) (root (words (now (parents .entry))) other) ⌝ }
-    ensures row { λ r. ⌜ ((n : ℕ) (ms : List ℕ) (s : ℕ) → Legal n ms → words (now (parents .entry)) ≡ forest-of n ms .parents → s ≢ 0 → Stone (board-of n ms) s one → Stone (board-of n ms) s other → Decides r (Row (board-of n ms) s one other)) ⌝ }
+    ensures row { λ r. ⌜ Tells-rows (words (now (parents .entry))) one other r ⌝ }
 {
     root(parents, one) == root(parents, other)
 }
@@ -90,7 +87,7 @@ pub fn same_group(parents: &[u8], one: u16, other: u16) -> bool
 // tells whether its side has connected.
 pub fn touches_both(borders: &[u8], cell: u16) -> bool
     ensures value { λ r. ⌜ r ≡ eqb (getD (now (borders .entry)) cell 0 % 4) 3 ⌝ }
-    ensures decides { λ r. ⌜ ((n : ℕ) (ms : List ℕ) → Legal n (ms ++ (cell ∷ [])) → Open (board-of n ms) → now (borders .entry) ≡ forest-of n (ms ++ (cell ∷ [])) .borders → Decides r (Connects (board-of n (ms ++ (cell ∷ []))) (turn-of n ms))) ⌝ }
+    ensures decides { λ r. ⌜ Tells-winner (now (borders .entry)) cell r ⌝ }
 {
     read(borders, cell) % 4 == 3
 }
@@ -101,7 +98,7 @@ pub fn groups_have_meaning()
     ensures joined { λ _. ⌜ Joined ⌝ }
     ensures decides { λ _. ⌜ One-byte-decides ⌝ }
     ensures back { λ _. ⌜ Back-again ⌝ }
-    ensures told { λ _. ⌜ Bytes-told ⌝ }
+    ensures told { λ _. ⌜ Kept-once ⌝ }
 {}
 
 // Looks at the k-th neighbour of a cell: a stone of the side brings its group.

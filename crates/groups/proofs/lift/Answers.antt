@@ -19,7 +19,7 @@ loop-below-again c =
     ]
 
 pub returns : need.returns
-returns c = record { value = value; back = λ ms. memory-back (c .args .size .n) ms (c .args .parents .now) (c .args .borders .now) (c .args .cell) _ value }
+returns c = record { value = value; back = memory-back (c .args .size .n) (c .args .cell) (c .args .parents .now) (c .args .borders .now) (c .loop-below .parents) (c .write .last .bytes) value }
   where
     cells : c .loop-below .below ≡ c .args .size .n * c .args .size .n
     cells = omega (arith, c .cells-below-end .ensures .value)

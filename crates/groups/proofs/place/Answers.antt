@@ -15,7 +15,7 @@ pub loop-k-again : need.loop-k-again
 loop-k-again c = adopt-more (laid (c .args .size .n) (c .args .cells .now)) (number (c .args .side)) (c .args .cell) (neighbour-of (c .args .size .n) (c .args .cell)) (c .loop-k .k) _ _ _ (c .loop-k .inv) (c .«take-in» .ensures)
 
 pub returns : need.returns
-returns c = record { value = value; grows = λ ms. memory-grows (c .args .size .n) ms (c .args .cells .now) (c .args .parents .now) (c .args .borders .now) (number (c .args .side)) (c .args .cell) _ value }
+returns c = record { value = value; grows = memory-grows (c .args .size .n) (c .args .cells .now) (number (c .args .side)) (c .args .cell) (c .args .parents .now) (c .args .borders .now) (c .loop-k .parents) (c .loop-k .borders) value }
   where
     six : c .loop-k .k ≡ 6
     six = omega arith

@@ -6,7 +6,7 @@ use Rattle.groups.proofs.Theorems.{byte-tells}
 use Rattle.groups.proofs.touches_both.Needs as need
 
 pub returns : need.returns
-returns c = record { value = value; decides = λ n ms legal not-yet is. byte-tells n ms (c .args .cell) (c .args .borders .now) _ legal not-yet is value }
+returns c = record { value = value; decides = byte-tells (c .args .borders .now) (c .args .cell) _ value }
   where
     value : eqb (c .read .result % 4) 3 ≡ eqb (getD (c .args .borders .now) (c .args .cell) 0 % 4) 3
     value = ap (λ v. eqb (v % 4) 3) (c .read .ensures)
