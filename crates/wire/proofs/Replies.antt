@@ -1,11 +1,11 @@
 -- A row of bytes is read as the answer that it is, or is no answer's bytes.
-use mathlib.Core.Path.{_≡_, refl, sym, ap, subst, _∙_}
-use mathlib.Core.List.{List, [], _∷_, _++_, append-nil}
-use Prim.Native.Nat.{ℕ, zero, suc, _+_, _-_, _*_, _/_, _%_, _≤_, _<_}
+use mathlib.Core.Path.{_≡_, sym, ap, _∙_}
+use mathlib.Core.List.{List, [], _∷_, _++_}
+use Prim.Native.Nat.{ℕ, suc, _+_, _-_, _*_, _≤_, _<_}
 use native.Mathlib.Omega.{arith}
-use lib.ListN.{length, getD, take, drop}
+use lib.ListN.{length, getD, drop}
 use denote.Ref.{RefT}
-use Rattle.std.proofs.shelf.Lists.{drop-all, nil-from-length, take-rest}
+use Rattle.std.proofs.shelf.Lists.{drop-all, nil-from-length}
 use Rattle.std.specs.Joined.{joined}
 use Rattle.std.specs.declared.option.Option.{Option}
 use Rattle.hex.specs.Sides as sides
@@ -63,20 +63,16 @@ only-way (Yes n) bs e = absurd (omega (arith, heads e))
 only-way No bs e = absurd (omega (arith, heads e))
 only-way TooMany bs e = absurd (omega (arith, heads e))
 
--- they name the side, and are as long as the count says
-way-says : (side : Side) (cells : RefT (List ℕ)) (s k : ℕ) (bs : List ℕ) → answer-bytes (Way side cells) ≡ 2 ∷ (two s ++ (two k ++ bs)) → (sides.number side ≡ s) × (length bs ≡ 2 * k)
+-- they are as long as the count says
+way-says : (side : Side) (cells : RefT (List ℕ)) (s k : ℕ) (bs : List ℕ) → answer-bytes (Way side cells) ≡ 2 ∷ (two s ++ (two k ++ bs)) → length bs ≡ 2 * k
 way-says side cells s k bs e =
     let n = length (words (cells .now)) in
-    let p : two (sides.number side) ≡ two s = cc in
     let q : two n ≡ two k = cc in
     let r : joined two (words (cells .now)) ≡ bs = cc in
-    (same-two (sides.number side) s p, omega (arith, same-two n k q, length-joined (words (cells .now)), ap length r))
-
-pub no-side : (s k : ℕ) (bs : List ℕ) → ((x : Side) → sides.number x ≡ s → ⊥) → (a : Answer) → answer-bytes a ≡ 2 ∷ (two s ++ (two k ++ bs)) → ⊥
-no-side s k bs none a e = let (side, cells, f) = only-way a _ e in none side (way-says side cells s k bs f .0)
+    omega (arith, same-two n k q, length-joined (words (cells .now)), ap length r)
 
 pub other-count : (s k : ℕ) (bs : List ℕ) → (length bs ≡ 2 * k → ⊥) → (a : Answer) → answer-bytes a ≡ 2 ∷ (two s ++ (two k ++ bs)) → ⊥
-other-count s k bs none a e = let (side, cells, f) = only-way a _ e in none (way-says side cells s k bs f .1)
+other-count s k bs none a e = let (side, cells, f) = only-way a _ e in none (way-says side cells s k bs f)
 
 -- a way of as many cells as are counted
 pub a-way : (side : Side) (s k : ℕ) (cells : RefT (List ℕ)) → ((i : ℕ) → getD (cells .now) i 0 < 256) → sides.number side ≡ s → k < 65536 → length (cells .now) ≡ 2 * k → Row (cells .now) × (answer-bytes (Way side cells) ≡ 2 ∷ (two s ++ (two k ++ cells .now)))

@@ -1,8 +1,8 @@
 -- The cells of a way in their bytes: how many they are, and how they stand behind the head of an answer.
 use mathlib.Core.Path.{_≡_, refl, sym, ap, _∙_}
 use mathlib.Core.Logic.{⊎-elim}
-use mathlib.Core.List.{List, [], _∷_, _++_}
-use Prim.Native.Nat.{ℕ, suc, _+_, _-_, _*_, _/_, _%_, _≤_, _<_}
+use mathlib.Core.List.{List, _++_}
+use Prim.Native.Nat.{ℕ, _+_, _-_, _*_, _/_, _%_, _≤_, _<_}
 use native.Mathlib.Omega.{arith}
 use borrow.Rule.Slice.PartMut.{putMid}
 use denote.Ref.{RefT}
@@ -16,7 +16,7 @@ use Rattle.std.specs.declared.option.Option.{Option}
 use Rattle.std.specs.declared.option.Option.the-variants.{Some, None}
 use Rattle.wire.specs.declared.answer.Answer.the-variants.{Way}
 use Rattle.wire.specs.Numbers.{words, Row}
-use Rattle.wire.specs.Bytes.{two, answer-bytes, way-head, Written, Headed}
+use Rattle.wire.specs.Bytes.{answer-bytes, way-head, Written, Headed}
 use Rattle.wire.proofs.Words.{joined-words, length-joined, words-long}
 
 -- half as many cells as bytes

@@ -1,8 +1,8 @@
 -- What an answer tells, and its bytes: each is known by the other.
 use mathlib.Core.Path.{_≡_, refl, sym, ap, _∙_}
 use mathlib.Core.Bool.{cond}
-use mathlib.Core.List.{List, [], _∷_}
-use Prim.Native.Nat.{ℕ, _+_, _*_, _≤_, _<_}
+use mathlib.Core.List.{[], _∷_}
+use Prim.Native.Nat.{ℕ, _+_, _*_, _≤_}
 use native.Mathlib.Omega.{arith}
 use lib.Dec.{eqb}
 use lib.ListN.{length, getD, drop}
@@ -71,7 +71,7 @@ pub understood : (a : Answer) (r : Option Answer) → Understood (answer-bytes a
 understood a None h = absurd (h a refl)
 understood a (Some b) h = (b, refl, same-told b a (h .1))
 
--- an answer takes a byte for its number, and at most seven more and two for each cell of a way
+-- an answer takes at most five bytes, and two for each cell of a way
 pub room : (a : Answer) (cells : ℕ) → way-length (told a) ≤ cells → length (answer-bytes a) ≤ 2 * cells + 8
 room (Refused why) cells few = omega arith
 room (Number n) cells few = omega arith

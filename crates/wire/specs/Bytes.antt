@@ -35,15 +35,15 @@ answer-bytes a = in-bytes (answer-numbers a)
 abbrev pub way-head : Side → ℕ → List ℕ
 way-head side count = in-bytes (way-numbers side count [])
 
--- The bytes bs are put at the front of old: it becomes new, which has the rest as it was, and told is how many they are.
+-- The bytes bs are put at the front of old: it becomes new, which has the rest as it was, and size is how many they are.
 -- If there is no room for them, nothing is written.
 abbrev pub Written : List ℕ → List ℕ → List ℕ → Option ℕ → Type 0
-Written bs old new (Some told) = (told ≡ length bs) × (length bs ≤ length old) × (new ≡ bs ++ drop (length bs) old)
+Written bs old new (Some size) = (size ≡ length bs) × (length bs ≤ length old) × (new ≡ bs ++ drop (length bs) old)
 Written bs old new None = (length old < length bs) × (new ≡ old)
 
 -- the same of an answer, unless it has no bytes
 abbrev pub Wrote : Answer → List ℕ → List ℕ → Result ℕ Unwritten → Type 0
-Wrote a old new (Ok told) = Sound a × Written (answer-bytes a) old new (Some told)
+Wrote a old new (Ok size) = Sound a × Written (answer-bytes a) old new (Some size)
 Wrote a old new (Err Short) = Sound a × Written (answer-bytes a) old new None
 Wrote a old new (Err NotCells) = (Sound a → ⊥) × (new ≡ old)
 

@@ -1,5 +1,4 @@
 -- The calls and answers of the code as those that the promises of the game speak of.
-use mathlib.Core.List.{List}
 use Prim.Native.Nat.{ℕ}
 use lib.ListN.{length}
 use Rattle.hex.specs.Games as games
@@ -10,12 +9,14 @@ use Rattle.wire.specs.declared.call.Call.{Call}
 use Rattle.wire.specs.declared.call.Call.the-variants.{Move, Back, Who, CanForce}
 use Rattle.wire.specs.Numbers.{reason, words}
 
+-- the call of the game that a call is
 abbrev pub asked : Call → games.Call
 asked (Move cell) = games.moves cell
 asked Back = games.back
 asked Who = games.who
 asked CanForce = games.can-force
 
+-- the answer of the game that an answer is
 abbrev pub told : Answer → games.Answer
 told (Refused why) = games.refused (reason why .number) (reason why .place)
 told (Number n) = games.number n

@@ -17,16 +17,10 @@ pub record Numbered : Type 0 where
   pub number : ℕ
   pub values : List ℕ
 
--- why something is refused: the number of the reason, and the place
+-- why a call, or opening, is refused: the number of the reason, and the place
 pub record Reason : Type 0 where
   pub number : ℕ
   pub place : ℕ
-
--- The numbers that bytes give, two by two, low byte first. A byte that is left over gives none.
-abbrev pub words : List ℕ → List ℕ
-words [] = []
-words (low ∷ []) = []
-words (low ∷ (high ∷ bs)) = (low + high * 256) ∷ words bs
 
 abbrev pub reason : Refusal → Reason
 reason (Unreadable byte) = record { number = 1; place = byte }
@@ -37,16 +31,24 @@ reason Over = record { number = 4; place = 0 }
 reason Taken = record { number = 5; place = 0 }
 reason NoMove = record { number = 6; place = 0 }
 
+-- a move holds its cell
 abbrev pub call-numbers : Call → Numbered
 call-numbers (Move cell) = record { number = 0; values = cell ∷ [] }
 call-numbers Back = record { number = 1; values = [] }
 call-numbers Who = record { number = 2; values = [] }
 call-numbers CanForce = record { number = 3; values = [] }
 
--- a way of a side: so many cells, and the cells
+-- The numbers that bytes give, two by two, low byte first. A byte that is left over gives none.
+abbrev pub words : List ℕ → List ℕ
+words [] = []
+words (low ∷ []) = []
+words (low ∷ (high ∷ bs)) = (low + high * 256) ∷ words bs
+
+-- a way of a side: how many cells, and the cells
 abbrev pub way-numbers : Side → ℕ → List ℕ → Numbered
 way-numbers side count ws = record { number = 2; values = sides.number side ∷ (count ∷ ws) }
 
+-- the cells of a way are those that its bytes give
 abbrev pub answer-numbers : Answer → Numbered
 answer-numbers (Refused why) = record { number = 0; values = reason why .number ∷ (reason why .place ∷ []) }
 answer-numbers (Number n) = record { number = 1; values = n ∷ [] }

@@ -4,6 +4,8 @@ mod call;
 mod front;
 pub mod laws;
 mod refusal;
+#[cfg(test)]
+mod tests;
 
 pub use answer::Answer;
 pub use answer::Unwritten;

@@ -1,5 +1,5 @@
 use borrow.Author.Needs.{needs}
-use Rattle.wire.proofs.Replies.{no-side, other-count, a-way}
+use Rattle.wire.proofs.Replies.{other-count, a-way}
 use Rattle.wire.proofs.answer.read_way.Needs as need
 
 pub returns-then-cells-from : need.returns-then-cells-from

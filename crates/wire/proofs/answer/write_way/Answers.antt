@@ -1,6 +1,5 @@
 use mathlib.Core.Path.{refl}
 use native.Mathlib.Omega.{arith}
-use borrow.Author.Needs.{needs}
 use Rattle.wire.proofs.Rows.{way-long, way-written}
 use Rattle.wire.proofs.answer.write_way.Needs as need
 
