@@ -2,6 +2,7 @@
 use mathlib.Core.Path.{_≡_}
 use mathlib.Core.Bool.{Bool, _&&_}
 use mathlib.Core.List.{List, _++_}
+use mathlib.Core.Logic.{_⊎_}
 use Prim.Native.Nat.{ℕ, _-_, _<_, _≤_}
 use lib.Chars.{codes}
 use lib.Dec.{ltb, eqb}
@@ -48,3 +49,9 @@ pub data First (largest : ℕ) (bytes : List ℕ) : Option Desk → List ℕ →
 abbrev pub Opens : ℕ → ℕ → Option Desk → Type 0
 Opens largest n None = Served-size largest n → ⊥
 Opens largest n (Some d) = Served-size largest n × (desk-game d ≡ games.new-game n)
+
+-- a new board in the place of game g, or a refusal
+abbrev pub Reopened : ℕ → ℕ → games.Game → games.Game → List ℕ → List ℕ → Type 0
+Reopened largest n g h before after =
+    (Served-size largest n × (h ≡ games.new-game n) × (after ≡ before ++ (codes "board " ++ decimal n)))
+    ⊎ ((Served-size largest n → ⊥) × (h ≡ g) × (after ≡ before ++ codes "refused 3 at 0"))

@@ -10,7 +10,7 @@ ghost use Rattle.wire.specs.Formal.{asked, told as answered};
 ghost use Rattle.text.specs.Answers.{line-of};
 ghost use Rattle.session.specs.Desks.{desk-game, told};
 ghost use Rattle.hex.specs.Games as games;
-ghost use Rattle.driver.specs.Served.{trimmed, Opens};
+ghost use Rattle.driver.specs.Served.{trimmed, Opens, Reopened, First, Next};
 use session::Desk;
 use session::Unopened;
 use std::alloc::Global;
@@ -85,18 +85,23 @@ pub fn first_line(
     largest: u16,
     line: &[u8],
     out: &mut String,
-) -> Result<Option<Desk>, Failed> {
+) -> Result<Option<Desk>, Failed>
+    ensures { λ r. ⌜ made r (λ d. (added : List ℕ) × (string-bytes (now (out .exit)) ≡ string-bytes (now (out .entry)) ++ added) × First largest (now (line .entry)) d added) ⌝ }
+{
     let Ok(Line::Board(n)) = read_line(line) else {
         write_unreadable(out, 0)?;
         return Ok(None);
     };
-    let opened = open(heap, largest, n)?;
-    if opened.is_some() {
-        write_opened(out, n)?;
-    } else {
-        write_refusal(out, Refusal::BadSize)?;
+    match open(heap, largest, n)? {
+        Some(desk) => {
+            write_opened(out, n)?;
+            Ok(Some(desk))
+        }
+        None => {
+            write_refusal(out, Refusal::BadSize)?;
+            Ok(None)
+        }
     }
-    Ok(opened)
 }
 
 // A line on the board there is.
@@ -106,11 +111,16 @@ pub fn next_line(
     desk: &mut Desk,
     line: &[u8],
     out: &mut String,
-) -> Result<(), Failed> {
+) -> Result<(), Failed>
+    ensures { λ r. ⌜ made r (λ _. (added : List ℕ) × (string-bytes (now (out .exit)) ≡ string-bytes (now (out .entry)) ++ added) × Next largest (now (line .entry)) (desk-game (now (desk .entry))) (desk-game (now (desk .exit))) added) ⌝ }
+{
     match read_line(line) {
         Err(place) => write_unreadable(out, place)?,
         Ok(Line::Board(n)) => reopen(heap, largest, n, desk, out)?,
-        Ok(Line::Call(call)) => serve(desk, call, out)?,
+        Ok(Line::Call(Call::Move(cell))) => write_told(out, desk.make_move(cell))?,
+        Ok(Line::Call(Call::Back)) => write_told(out, desk.take_back())?,
+        Ok(Line::Call(Call::Who)) => write_unreadable(out, 0)?,
+        Ok(Line::Call(Call::CanForce)) => write_unreadable(out, 0)?,
     }
     Ok(())
 }
@@ -122,7 +132,9 @@ fn reopen(
     n: u16,
     desk: &mut Desk,
     out: &mut String,
-) -> Result<(), Failed> {
+) -> Result<(), Failed>
+    ensures { λ r. ⌜ made r (λ _. Reopened largest n (desk-game (now (desk .entry))) (desk-game (now (desk .exit))) (string-bytes (now (out .entry))) (string-bytes (now (out .exit)))) ⌝ }
+{
     match open(heap, largest, n)? {
         Some(opened) => {
             *desk = opened;
@@ -131,16 +143,6 @@ fn reopen(
         None => write_refusal(out, Refusal::BadSize)?,
     }
     Ok(())
-}
-
-// A call on the board there is.
-fn serve(desk: &mut Desk, call: Call, out: &mut String) -> fmt::Result {
-    match call {
-        Call::Move(cell) => write_told(out, desk.make_move(cell)),
-        Call::Back => write_told(out, desk.take_back()),
-        Call::Who => write_unreadable(out, 0),
-        Call::CanForce => write_unreadable(out, 0),
-    }
 }
 
 // A line, with the board there is or none yet; the board that there is then. A carriage return at its end is left out.
