@@ -10,7 +10,8 @@ ghost use Rattle.wire.specs.Formal.{asked, told as answered};
 ghost use Rattle.text.specs.Answers.{line-of};
 ghost use Rattle.session.specs.Desks.{desk-game, told};
 ghost use Rattle.hex.specs.Games as games;
-ghost use Rattle.driver.specs.Served.{trimmed, Opens, Reopened, First, Next};
+ghost use Rattle.text.specs.Lines.{Asks};
+ghost use Rattle.driver.specs.Served.{trimmed, Opens, opening, Reopened, First, Called, Next};
 use session::Desk;
 use session::Unopened;
 use std::alloc::Global;
@@ -88,10 +89,40 @@ pub fn first_line(
 ) -> Result<Option<Desk>, Failed>
     ensures { λ r. ⌜ made r (λ d. (added : List ℕ) × (string-bytes (now (out .exit)) ≡ string-bytes (now (out .entry)) ++ added) × First largest (now (line .entry)) d added) ⌝ }
 {
-    let Ok(Line::Board(n)) = read_line(line) else {
-        write_unreadable(out, 0)?;
-        return Ok(None);
-    };
+    match read_line(line) {
+        Ok(asked) => follow_first(heap, largest, asked, out),
+        Err(_place) => {
+            write_unreadable(out, 0)?;
+            Ok(None)
+        }
+    }
+}
+
+// What a line asks for before the first board.
+fn follow_first(
+    heap: Global,
+    largest: u16,
+    line: Line,
+    out: &mut String,
+) -> Result<Option<Desk>, Failed>
+    ensures { λ r. ⌜ made r (λ d. (bytes : List ℕ) → Asks bytes line → (added : List ℕ) × (string-bytes (now (out .exit)) ≡ string-bytes (now (out .entry)) ++ added) × First largest bytes d added) ⌝ }
+{
+    match line {
+        Line::Board(n) => {
+            let opened = open_first(heap, largest, n, out)?;
+            Ok(opened)
+        }
+        Line::Call(_call) => {
+            write_unreadable(out, 0)?;
+            Ok(None)
+        }
+    }
+}
+
+// The first board, or a refusal.
+fn open_first(heap: Global, largest: u16, n: u16, out: &mut String) -> Result<Option<Desk>, Failed>
+    ensures { λ r. ⌜ made r (λ d. Opens largest n d × (string-bytes (now (out .exit)) ≡ string-bytes (now (out .entry)) ++ opening n d)) ⌝ }
+{
     match open(heap, largest, n)? {
         Some(desk) => {
             write_opened(out, n)?;
@@ -116,11 +147,37 @@ pub fn next_line(
 {
     match read_line(line) {
         Err(place) => write_unreadable(out, place)?,
-        Ok(Line::Board(n)) => reopen(heap, largest, n, desk, out)?,
-        Ok(Line::Call(Call::Move(cell))) => write_told(out, desk.make_move(cell))?,
-        Ok(Line::Call(Call::Back)) => write_told(out, desk.take_back())?,
-        Ok(Line::Call(Call::Who)) => write_unreadable(out, 0)?,
-        Ok(Line::Call(Call::CanForce)) => write_unreadable(out, 0)?,
+        Ok(asked) => follow(heap, largest, asked, desk, out)?,
+    }
+    Ok(())
+}
+
+// What a line asks for on the board there is.
+fn follow(
+    heap: Global,
+    largest: u16,
+    line: Line,
+    desk: &mut Desk,
+    out: &mut String,
+) -> Result<(), Failed>
+    ensures { λ r. ⌜ made r (λ _. (bytes : List ℕ) → Asks bytes line → (added : List ℕ) × (string-bytes (now (out .exit)) ≡ string-bytes (now (out .entry)) ++ added) × Next largest bytes (desk-game (now (desk .entry))) (desk-game (now (desk .exit))) added) ⌝ }
+{
+    match line {
+        Line::Board(n) => reopen(heap, largest, n, desk, out)?,
+        Line::Call(call) => serve(desk, call, out)?,
+    }
+    Ok(())
+}
+
+// A call on the board there is.
+fn serve(desk: &mut Desk, call: Call, out: &mut String) -> Result<(), Failed>
+    ensures { λ r. ⌜ made r (λ _. Called call (desk-game (now (desk .entry))) (desk-game (now (desk .exit))) (string-bytes (now (out .entry))) (string-bytes (now (out .exit)))) ⌝ }
+{
+    match call {
+        Call::Move(cell) => write_told(out, desk.make_move(cell))?,
+        Call::Back => write_told(out, desk.take_back())?,
+        Call::Who => write_unreadable(out, 0)?,
+        Call::CanForce => write_unreadable(out, 0)?,
     }
     Ok(())
 }
