@@ -74,3 +74,9 @@ abbrev pub Reopened : ℕ → ℕ → games.Game → games.Game → List ℕ →
 Reopened largest n g h before after =
     (Served-size largest n × (h ≡ games.new-game n) × (after ≡ before ++ (codes "board " ++ decimal n)))
     ⊎ ((Served-size largest n → ⊥) × (h ≡ g) × (after ≡ before ++ line-of (games.refused 3 0)))
+
+-- a line, with the board there was or none; what is written after what was there, and the board there is then
+abbrev pub Line-served : ℕ → List ℕ → Option Desk → Option Desk → List ℕ → List ℕ → Type 0
+Line-served largest bytes None e before after = (added : List ℕ) × (after ≡ before ++ added) × First largest bytes e added
+Line-served largest bytes (Some d) None before after = ⊥
+Line-served largest bytes (Some d) (Some e) before after = (added : List ℕ) × (after ≡ before ++ added) × Next largest bytes (desk-game d) (desk-game e) added

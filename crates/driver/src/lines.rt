@@ -11,7 +11,7 @@ ghost use Rattle.text.specs.Answers.{line-of};
 ghost use Rattle.session.specs.Desks.{desk-game, told};
 ghost use Rattle.hex.specs.Games as games;
 ghost use Rattle.text.specs.Lines.{Asks};
-ghost use Rattle.driver.specs.Served.{trimmed, Opens, opening, Reopened, First, Called, Next};
+ghost use Rattle.driver.specs.Served.{trimmed, Opens, opening, Reopened, First, Called, Next, Line-served};
 use session::Desk;
 use session::Unopened;
 use std::alloc::Global;
@@ -209,11 +209,17 @@ pub fn answer_line(
     desk: Option<Desk>,
     line: &[u8],
     out: &mut String,
-) -> Result<Option<Desk>, Failed> {
+) -> Result<Option<Desk>, Failed>
+    ensures { λ r. ⌜ made r (λ e. Line-served largest (trimmed (now (line .entry))) desk e (string-bytes (now (out .entry))) (string-bytes (now (out .exit)))) ⌝ }
+{
+    let line = without_return(line);
     match desk {
-        None => first_line(heap, largest, without_return(line), out),
+        None => {
+            let opened = first_line(heap, largest, line, out)?;
+            Ok(opened)
+        }
         Some(mut desk) => {
-            next_line(heap, largest, &mut desk, without_return(line), out)?;
+            next_line(heap, largest, &mut desk, line, out)?;
             Ok(Some(desk))
         }
     }
