@@ -107,3 +107,67 @@ impl Desk {
         &self.stones
     }
 }
+
+#[cfg(test)]
+mod tests {
+    use super::*;
+    use hex::SideDebug;
+    use hex::SidePartialEq;
+    use std::test::*;
+    use wire::RefusalDebug;
+    use wire::RefusalPartialEq;
+
+    fn opened(heap: Global, n: u16) -> Result<Desk, Fail> {
+        let Ok(desk) = Desk::open(heap, n) else {
+            return Err(Fail::new("not opened"));
+        };
+        Ok(desk)
+    }
+
+    fn refused(heap: Global, n: u16) -> bool {
+        matches!(
+            Desk::open(heap, n),
+            Err(Unopened::Refused(Refusal::BadSize))
+        )
+    }
+
+    #[test]
+    fn sizes_out_of_range(rt: LibcRuntime) -> Result<(), Fail> {
+        check(refused(rt.alloc(), 0))?;
+        check(refused(rt.alloc(), 20))
+    }
+
+    #[test]
+    fn each_side_can_win(rt: LibcRuntime) -> Result<(), Fail> {
+        let mut desk = opened(rt.alloc(), 3)?;
+        check_eq(desk.take_back(), Err(Refusal::NoMove))?;
+        let mut number = 0;
+        for cell in [4, 0, 8, 2, 6, 3, 5, 1] {
+            check_eq(desk.make_move(cell), Ok(number))?;
+            number = u16::wrapping_add(number, 1);
+        }
+        check_eq(desk.winner(), Some(Side::Two))?;
+        check_eq(desk.make_move(7), Err(Refusal::Over))?;
+        check_eq(desk.make_move(4), Err(Refusal::Over))?;
+        check_eq(desk.make_move(9), Err(Refusal::NoCell))?;
+        check_eq(desk.take_back(), Ok(7))?;
+        check_eq(desk.winner(), None)?;
+        check_eq(desk.make_move(4), Err(Refusal::Taken))?;
+        check_eq(desk.take_back(), Ok(6))?;
+        check_eq(desk.make_move(1), Ok(6))?;
+        check_eq(desk.winner(), Some(Side::One))
+    }
+
+    #[test]
+    fn back_to_the_start(rt: LibcRuntime) -> Result<(), Fail> {
+        let mut desk = opened(rt.alloc(), 7)?;
+        for cell in [24, 17, 30, 48, 0] {
+            desk.make_move(cell)?;
+        }
+        check_eq(desk.cells().get(48).copied(), Some(2))?;
+        for left in [4, 3, 2, 1, 0] {
+            check_eq(desk.take_back(), Ok(left))?;
+        }
+        check_eq(desk.cells(), &[0; 49])
+    }
+}
