@@ -1,0 +1,2 @@
+pub mod TwoBytes
+pub mod Trees
