@@ -1,2 +1,4 @@
 pub mod TwoBytes
 pub mod Trees
+pub mod Crossings
+pub mod Fronts
