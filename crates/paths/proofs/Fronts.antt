@@ -10,6 +10,7 @@ use lib.Dec.{eqb}
 use lib.ListN.{length, getD, set}
 use Rattle.std.specs.declared.option.Option.{Option}
 use Rattle.std.specs.declared.option.Option.the-variants.{Some, None}
+use Rattle.std.proofs.shelf.Lists.{getD-set-other}
 use Rattle.std.proofs.shelf.Tests.{eq-eqb, ne-eqb, cond-true, cond-false, both-ways}
 use Rattle.paths.specs.Ways.{Ground, crosses}
 use Rattle.paths.specs.Search.{Reached, Tree, Unmet, Spread, Front, Ahead, Met}
@@ -79,3 +80,108 @@ module _ (g : Ground) (queue from : List ℕ) (h t y : ℕ) (next : ℕ → Opti
         below-more (λ p. Spread g from (l .depth) (getD queue p 0)) h (l .front .done)
         (subst (Spread g from (l .depth)) (sym (l .here)) (λ x near own. let (m, b, e) = all x near own in l .looked m b x e own));
   })
+
+-- Place x, near y, is one's own and not reached yet; there is a place for it.
+pub record Fresh (g : Ground) (queue from : List ℕ) (y x : ℕ) : Type 0 where
+  pub own : g .own x ≡ true
+  pub near : g .near y x ≡ true
+  pub new : Reached from x → ⊥
+  pub inside : x < length from
+  pub fits : length from ≤ length queue
+
+module _ (g : Ground) (queue from : List ℕ) (h t y : ℕ) (next : ℕ → Option ℕ) (k x : ℕ) (l : Looking g queue from h t y next k)
+    (fresh : Fresh g queue from y x) where
+  depth′ : ℕ → ℕ
+  depth′ = deepen (l .depth) x (l .depth y + 1)
+
+  -- What was reached keeps its depth, and x is one step deeper than y.
+  same-depth : (z : ℕ) → Reached from z → depth′ z ≡ l .depth z
+  unfolding depth′
+  same-depth z r =
+      cond-false (eqb z x) (l .depth y + 1) (l .depth z) (ne-eqb z x (λ e. fresh .new (subst (Reached from) e r)))
+
+  new-depth : depth′ x ≡ l .depth y + 1
+  unfolding depth′
+  new-depth = cond-true (eqb x x) (l .depth y + 1) (l .depth x) (eq-eqb x x refl)
+
+  y-reached : Reached from y
+  y-reached = subst (Reached from) (l .here) (l .front .tree .listed h (l .inside))
+
+  comes : Comes g queue from t x y (l .depth) depth′
+  comes = record {
+    own = fresh .own;
+    new = fresh .new;
+    inside = fresh .inside;
+    fits = fresh .fits;
+    same = same-depth;
+    hangs = inr (y-reached, fresh .near, new-depth);
+    shallow =
+        let s = l .front .tree .shallow h (l .inside) in let i = l .inside in omega (arith, new-depth, ap (l .depth) (l .here));
+    deepest = λ p b. let d = l .front .level (l .inside) p b in omega (arith, new-depth, ap (l .depth) (l .here));
+  }
+
+  tree : Tree g (set queue t x) (set from x (y + 1)) (t + 1) depth′
+  tree = tree-more g queue from t x y (l .depth) depth′ (l .front .tree) comes
+
+  still : (z : ℕ) → Reached from z → Reached (set from x (y + 1)) z
+  still = stays g queue from t x y (l .depth) depth′ (l .front .tree) comes
+
+  arrived : Reached (set from x (y + 1)) x
+  arrived = reaches g queue from t x y (l .depth) depth′ (l .front .tree) comes
+
+  -- What was reached at most one step deeper than a place still is.
+  still-near : (a z : ℕ) → Reached from a → Reached from z × (l .depth z ≤ l .depth a + 1)
+      → Reached (set from x (y + 1)) z × (depth′ z ≤ depth′ a + 1)
+  still-near a z r (s, d) = let e = same-depth a r in let f = same-depth z s in (still z s, omega arith)
+
+  still-there : (p : ℕ) → p < t → getD (set queue t x) p 0 ≡ getD queue p 0
+  still-there p b = getD-set-other queue t p x 0 (omega arith)
+
+  -- A place at the first border ends the search: no way is shorter than that from here.
+  pub look-met : Mutual g → g .first x ≡ true → Met g (set queue t x) (set from x (y + 1)) x
+  look-met both first = record {
+    t = t + 1;
+    depth = depth′;
+    tree = tree;
+    reached = arrived;
+    first = first;
+    least = λ w way.
+        let b = beyond g queue from h t (l .depth) (l .depth y) both (l .front)
+          (λ p late b. let s = l .front .tree .sorted h p late b in omega (arith, ap (l .depth) (l .here))) w way
+        in
+        omega (arith, new-depth);
+  }
+
+  -- Any other is listed, and the search looks at the next neighbour.
+  pub look-more : next k ≡ Some x → (g .first x ≡ true → ⊥) → Looking g (set queue t x) (set from x (y + 1)) h (t + 1) y next (k + 1)
+  look-more e inner = record {
+    depth = depth′;
+    front = record {
+      tree = tree;
+      unmet = each-reached g queue from t x y (l .depth) depth′ (l .front .tree) comes (λ z. g .first z ≡ true → ⊥) (l .front .unmet) inner;
+      sources = λ z o b. let (r, d) = l .front .sources z o b in (still z r, same-depth z r ∙ d);
+      level = λ more. each-listed g queue from t x y (l .depth) depth′ (l .front .tree) comes
+          (λ p z. depth′ z ≤ depth′ (getD (set queue t x) h 0) + 1)
+          (λ p b.
+          let d = l .front .level (l .inside) p b in
+          let a = same-depth (getD queue p 0) (l .front .tree .listed p b) in
+          omega (arith, h-depth, ap (l .depth) (l .here)))
+          (omega (arith, h-depth, new-depth));
+      done = λ p b.
+          let r = l .front .tree .listed p (let i = l .inside in omega arith) in
+          subst (Spread g (set from x (y + 1)) depth′) (sym (still-there p (let i = l .inside in omega arith)))
+          (λ z near own. still-near (getD queue p 0) z r (l .front .done p b z near own));
+    };
+    inside = let i = l .inside in omega arith;
+    here = still-there h (l .inside) ∙ l .here;
+    looked =
+        below-more (λ m. (z : ℕ) → next m ≡ Some z → g .own z ≡ true → Reached (set from x (y + 1)) z × (depth′ z ≤ depth′ y + 1)) k
+        (λ m b z f o. still-near y z y-reached (l .looked m b z f o))
+        (λ z f o.
+        let s : x ≡ z = let s : Some x ≡ Some z = sym e ∙ f in cc in
+        subst (λ z. Reached (set from x (y + 1)) z × (depth′ z ≤ depth′ y + 1)) s
+        (arrived, let d = same-depth y y-reached in omega (arith, new-depth)));
+  }
+    where
+      h-depth : depth′ (getD (set queue t x) h 0) ≡ l .depth y
+      h-depth = ap depth′ (still-there h (l .inside) ∙ l .here) ∙ same-depth y y-reached

@@ -2,3 +2,4 @@ pub mod TwoBytes
 pub mod Trees
 pub mod Crossings
 pub mod Fronts
+pub mod Sources

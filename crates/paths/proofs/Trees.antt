@@ -20,7 +20,7 @@ abbrev free : ℕ → ℕ
 free v = cond (eqb 0 v) 1 0
 
 -- Of places that are all 0 none is reached.
-none-reached : (n x : ℕ) → Reached (replicate n 0) x → ⊥
+pub none-reached : (n x : ℕ) → Reached (replicate n 0) x → ⊥
 none-reached zero x h = omega arith
 none-reached (suc n) zero h = omega arith
 none-reached (suc n) (suc x) h = none-reached n x h
