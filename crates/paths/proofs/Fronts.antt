@@ -14,7 +14,7 @@ use Rattle.std.proofs.shelf.Lists.{getD-set-other}
 use Rattle.std.proofs.shelf.Tests.{eq-eqb, ne-eqb, cond-true, cond-false, both-ways}
 use Rattle.paths.specs.Ways.{Ground, crosses}
 use Rattle.paths.specs.Search.{Reached, Tree, Unmet, Spread, Front, Ahead, Met}
-use Rattle.paths.proofs.Trees.{Comes, stays, reaches, each-reached, each-listed, tree-more}
+use Rattle.paths.proofs.Trees.{room, Comes, stays, reaches, each-reached, each-listed, tree-more}
 use Rattle.paths.proofs.Crossings.{Mutual, beyond}
 
 -- the depths with place x at depth d
@@ -34,15 +34,15 @@ pub record Looking (g : Ground) (queue from : List ℕ) (h t y : ℕ) (next : �
   pub here : getD queue h 0 ≡ y
   pub looked : Looked g from depth y next k
 
-module _ (g : Ground) (queue from : List ℕ) (h t y : ℕ) (next : ℕ → Option ℕ) where
-  pub look : Ahead g queue from h t → h < t → getD queue h 0 ≡ y → Looking g queue from h t y next 0
-  look (depth, front) inside here =
-      record { depth = depth; front = front; inside = inside; here = here; looked = λ m l x e o. absurd (omega arith) }
+pub look : (g : Ground) (queue from : List ℕ) (h t y : ℕ) (next : ℕ → Option ℕ) → Ahead g queue from h t → h < t → getD queue h 0 ≡ y
+    → Looking g queue from h t y next 0
+look g queue from h t y next (depth, front) inside here =
+    record { depth = depth; front = front; inside = inside; here = here; looked = λ m l x e o. absurd (omega arith) }
 
+module _ {g : Ground} {queue from : List ℕ} {h t y : ℕ} {next : ℕ → Option ℕ} {k : ℕ} (l : Looking g queue from h t y next k) where
   -- One more neighbour is looked at if, being one's own, it is reached and no deeper than one step.
-  passed : (k : ℕ) (l : Looking g queue from h t y next k)
-      → ((x : ℕ) → next k ≡ Some x → g .own x ≡ true → Reached from x × (l .depth x ≤ l .depth y + 1)) → Looking g queue from h t y next (k + 1)
-  passed k l more = record {
+  passed : ((x : ℕ) → next k ≡ Some x → g .own x ≡ true → Reached from x × (l .depth x ≤ l .depth y + 1)) → Looking g queue from h t y next (k + 1)
+  passed more = record {
     depth = l .depth;
     front = l .front;
     inside = l .inside;
@@ -51,27 +51,26 @@ module _ (g : Ground) (queue from : List ℕ) (h t y : ℕ) (next : ℕ → Opti
   }
 
   -- A neighbour that is not there,
-  pub look-past-end : (k : ℕ) → Looking g queue from h t y next k → next k ≡ None → Looking g queue from h t y next (k + 1)
-  look-past-end k l none = passed k l (λ x e o. absurd (let z : None ≡ Some x = sym none ∙ e in grind arith))
+  pub look-past-end : next k ≡ None → Looking g queue from h t y next (k + 1)
+  look-past-end none = passed (λ x e o. absurd (let z : None ≡ Some x = sym none ∙ e in grind arith))
 
   -- one that is not one's own,
-  pub look-past-other : (k x : ℕ) → Looking g queue from h t y next k → next k ≡ Some x → g .own x ≡ false → Looking g queue from h t y next (k + 1)
-  look-past-other k x l e other =
-      passed k l (λ z f o. absurd (let s : x ≡ z = let s : Some x ≡ Some z = sym e ∙ f in cc in both-ways (g .own x) other (subst (λ z. g .own z ≡ true) (sym s) o)))
+  pub look-past-other : (x : ℕ) → next k ≡ Some x → g .own x ≡ false → Looking g queue from h t y next (k + 1)
+  look-past-other x e other =
+      passed (λ z f o. absurd (let s : x ≡ z = let s : Some x ≡ Some z = sym e ∙ f in cc in both-ways (g .own x) other (subst (λ z. g .own z ≡ true) (sym s) o)))
 
   -- and one that is reached already need no more.
-  pub look-past-reached : (k x : ℕ) → Looking g queue from h t y next k → next k ≡ Some x → Reached from x → Looking g queue from h t y next (k + 1)
-  look-past-reached k x l e r =
-      passed k l
+  pub look-past-reached : (x : ℕ) → next k ≡ Some x → Reached from x → Looking g queue from h t y next (k + 1)
+  look-past-reached x e r =
+      passed
       (λ z f o. let s : x ≡ z = let s : Some x ≡ Some z = sym e ∙ f in cc in
       let (p, b, q) = l .front .tree .placed x r in
       let d = l .front .level (l .inside) p b in
       (subst (Reached from) s r, omega (arith, ap (l .depth) s, ap (l .depth) q, ap (l .depth) (l .here))))
 
   -- Once all neighbours of y are looked at, the search goes on to the next place.
-  pub look-on : (k : ℕ) → Looking g queue from h t y next k
-      → ((x : ℕ) → g .near y x ≡ true → g .own x ≡ true → (m : ℕ) × (m < k) × (next m ≡ Some x)) → Ahead g queue from (h + 1) t
-  look-on k l all = (l .depth, record {
+  pub look-on : ((x : ℕ) → g .near y x ≡ true → g .own x ≡ true → (m : ℕ) × (m < k) × (next m ≡ Some x)) → Ahead g queue from (h + 1) t
+  look-on all = (l .depth, record {
     tree = l .front .tree;
     unmet = l .front .unmet;
     sources = l .front .sources;
@@ -81,16 +80,14 @@ module _ (g : Ground) (queue from : List ℕ) (h t y : ℕ) (next : ℕ → Opti
         (subst (Spread g from (l .depth)) (sym (l .here)) (λ x near own. let (m, b, e) = all x near own in l .looked m b x e own));
   })
 
--- Place x, near y, is one's own and not reached yet; there is a place for it.
-pub record Fresh (g : Ground) (queue from : List ℕ) (y x : ℕ) : Type 0 where
+-- Place x, near y, is one's own and not reached yet.
+pub record Fresh (g : Ground) (from : List ℕ) (y x : ℕ) : Type 0 where
   pub own : g .own x ≡ true
   pub near : g .near y x ≡ true
   pub new : Reached from x → ⊥
-  pub inside : x < length from
-  pub fits : length from ≤ length queue
 
-module _ (g : Ground) (queue from : List ℕ) (h t y : ℕ) (next : ℕ → Option ℕ) (k x : ℕ) (l : Looking g queue from h t y next k)
-    (fresh : Fresh g queue from y x) where
+module _ {g : Ground} {queue from : List ℕ} {h t y : ℕ} {next : ℕ → Option ℕ} {k x : ℕ} (l : Looking g queue from h t y next k)
+    (fresh : Fresh g from y x) where
   depth′ : ℕ → ℕ
   depth′ = deepen (l .depth) x (l .depth y + 1)
 
@@ -111,14 +108,15 @@ module _ (g : Ground) (queue from : List ℕ) (h t y : ℕ) (next : ℕ → Opti
   comes = record {
     own = fresh .own;
     new = fresh .new;
-    inside = fresh .inside;
-    fits = fresh .fits;
     same = same-depth;
     hangs = inr (y-reached, fresh .near, new-depth);
     shallow =
         let s = l .front .tree .shallow h (l .inside) in let i = l .inside in omega (arith, new-depth, ap (l .depth) (l .here));
     deepest = λ p b. let d = l .front .level (l .inside) p b in omega (arith, new-depth, ap (l .depth) (l .here));
   }
+
+  pub look-room : t < length from
+  look-room = room g queue from t (l .depth) x (l .front .tree) (fresh .own) (fresh .new)
 
   tree : Tree g (set queue t x) (set from x (y + 1)) (t + 1) depth′
   tree = tree-more g queue from t x y (l .depth) depth′ (l .front .tree) comes
@@ -153,12 +151,12 @@ module _ (g : Ground) (queue from : List ℕ) (h t y : ℕ) (next : ℕ → Opti
   }
 
   -- Any other is listed, and the search looks at the next neighbour.
-  pub look-more : next k ≡ Some x → (g .first x ≡ true → ⊥) → Looking g (set queue t x) (set from x (y + 1)) h (t + 1) y next (k + 1)
+  pub look-more : next k ≡ Some x → g .first x ≡ false → Looking g (set queue t x) (set from x (y + 1)) h (t + 1) y next (k + 1)
   look-more e inner = record {
     depth = depth′;
     front = record {
       tree = tree;
-      unmet = each-reached g queue from t x y (l .depth) depth′ (l .front .tree) comes (λ z. g .first z ≡ true → ⊥) (l .front .unmet) inner;
+      unmet = each-reached g queue from t x y (l .depth) depth′ (l .front .tree) comes (λ z. g .first z ≡ true → ⊥) (l .front .unmet) (both-ways (g .first x) inner);
       sources = λ z o b. let (r, d) = l .front .sources z o b in (still z r, same-depth z r ∙ d);
       level = λ more. each-listed g queue from t x y (l .depth) depth′ (l .front .tree) comes
           (λ p z. depth′ z ≤ depth′ (getD (set queue t x) h 0) + 1)

@@ -3,3 +3,4 @@ pub mod Trees
 pub mod Crossings
 pub mod Fronts
 pub mod Sources
+pub mod Grounds

@@ -1,16 +1,16 @@
 -- The start of the search: one's own places at the last border are listed, in the order of their numbers.
 use mathlib.Core.Path.{_≡_, refl, sym, ap, subst, _∙_}
-use mathlib.Core.Bool.{Bool, true, false}
+use mathlib.Core.Bool.{Bool, true, false, _&&_}
 use mathlib.Core.List.{List, [], _∷_}
 use mathlib.Core.Logic.{_⊎_, inl, inr, ⊎-elim}
 use Prim.Native.Nat.{ℕ, _+_, _≤_, _<_}
 use native.Mathlib.Omega.{arith}
 use borrow.Author.Count.{below-more}
 use lib.ListN.{length, getD, set, replicate}
-use Rattle.std.proofs.shelf.Tests.{false≢true}
+use Rattle.std.proofs.shelf.Tests.{false≢true, and-parts, and-from, both-ways}
 use Rattle.paths.specs.Ways.{Ground, crosses}
 use Rattle.paths.specs.Search.{Reached, Tree, Unmet, Ahead, Met}
-use Rattle.paths.proofs.Trees.{none-reached, tree-none, Comes, stays, reaches, each-reached, tree-more}
+use Rattle.paths.proofs.Trees.{none-reached, room, tree-none, Comes, stays, reaches, each-reached, tree-more}
 
 -- the depth of every place at the start
 abbrev flat : ℕ → ℕ
@@ -23,9 +23,10 @@ pub record Sown (g : Ground) (queue from : List ℕ) (i t : ℕ) : Type 0 where
   pub sources : (x : ℕ) → x < i → g .own x ≡ true → g .last x ≡ true → Reached from x
   pub below : (x : ℕ) → Reached from x → x < i
 
-pub sow-none : (g : Ground) (queue : List ℕ) (n : ℕ) → Sown g queue (replicate n 0) 0 0
-sow-none g queue n = record {
-  tree = tree-none g queue n flat;
+pub sow-none : (g : Ground) (queue : List ℕ) (n : ℕ) → length queue ≡ n → ((x : ℕ) → g .own x ≡ true → x < n)
+    → Sown g queue (replicate n 0) 0 0
+sow-none g queue n whole inside = record {
+  tree = tree-none g queue n flat whole inside;
   unmet = λ x r f. none-reached n x r;
   sources = λ x l o e. absurd (omega arith);
   below = λ x r. absurd (none-reached n x r);
@@ -37,14 +38,14 @@ unfolding crosses
 some-place g [] way = absurd (false≢true way)
 some-place g (i ∷ is) way = omega arith
 
-module _ (g : Ground) (queue from : List ℕ) (i t : ℕ) (sown : Sown g queue from i t) where
+module _ {g : Ground} {queue from : List ℕ} {i t : ℕ} (sown : Sown g queue from i t) where
   -- A place that is not one's own or not at the last border is passed over.
-  pub sow-past : (g .own i ≡ true → g .last i ≡ true → ⊥) → Sown g queue from (i + 1) t
-  sow-past other = record {
+  pub sow-past : (g .own i && g .last i) ≡ false → Sown g queue from (i + 1) t
+  sow-past test = record {
     tree = sown .tree;
     unmet = sown .unmet;
     sources =
-        below-more (λ x. g .own x ≡ true → g .last x ≡ true → Reached from x) i (sown .sources) (λ o e. absurd (other o e));
+        below-more (λ x. g .own x ≡ true → g .last x ≡ true → Reached from x) i (sown .sources) (λ o e. absurd (both-ways (g .own i && g .last i) test (and-from (g .own i) (g .last i) o e)));
     below = λ x r. let l = sown .below x r in omega arith;
   }
 
@@ -58,18 +59,22 @@ module _ (g : Ground) (queue from : List ℕ) (i t : ℕ) (sown : Sown g queue f
     done = λ p l. absurd (omega arith);
   })
 
-  module _ (own : g .own i ≡ true) (last : g .last i ≡ true) (inside : i < length from) (fits : length from ≤ length queue) where
+  module _ (test : (g .own i && g .last i) ≡ true) where
+    pub sow-own : g .own i ≡ true
+    sow-own = and-parts (g .own i) (g .last i) test .0
+
     comes : Comes g queue from t i i flat flat
     comes = record {
-      own = own;
+      own = sow-own;
       new = λ r. let l = sown .below i r in omega arith;
-      inside = inside;
-      fits = fits;
       same = λ z r. refl;
-      hangs = inl last;
+      hangs = inl (and-parts (g .own i) (g .last i) test .1);
       shallow = omega arith;
       deepest = λ p l. omega arith;
     }
+
+    pub sow-room : t < length from
+    sow-room = room g queue from t flat i (sown .tree) sow-own (comes .new)
 
     tree : Tree g (set queue t i) (set from i (i + 1)) (t + 1) flat
     tree = tree-more g queue from t i i flat flat (sown .tree) comes
@@ -86,10 +91,10 @@ module _ (g : Ground) (queue from : List ℕ) (i t : ℕ) (sown : Sown g queue f
     }
 
     -- Any other is listed.
-    pub sow-more : (g .first i ≡ true → ⊥) → Sown g (set queue t i) (set from i (i + 1)) (i + 1) (t + 1)
+    pub sow-more : g .first i ≡ false → Sown g (set queue t i) (set from i (i + 1)) (i + 1) (t + 1)
     sow-more inner = record {
       tree = tree;
-      unmet = each-reached g queue from t i i flat flat (sown .tree) comes (λ x. g .first x ≡ true → ⊥) (sown .unmet) inner;
+      unmet = each-reached g queue from t i i flat flat (sown .tree) comes (λ x. g .first x ≡ true → ⊥) (sown .unmet) (both-ways (g .first i) inner);
       sources =
           below-more (λ x. g .own x ≡ true → g .last x ≡ true → Reached (set from i (i + 1)) x) i
           (λ x l o e. stays g queue from t i i flat flat (sown .tree) comes x (sown .sources x l o e))

@@ -29,8 +29,11 @@ all-free : (n : ℕ) → countBy (eqb 0) (replicate n 0) ≡ n
 all-free zero = refl
 all-free (suc n) = let r = all-free n in omega (arith, sumBy-cons free 0 (replicate n 0))
 
-pub tree-none : (g : Ground) (queue : List ℕ) (n : ℕ) (depth : ℕ → ℕ) → Tree g queue (replicate n 0) 0 depth
-tree-none g queue n depth = record {
+pub tree-none : (g : Ground) (queue : List ℕ) (n : ℕ) (depth : ℕ → ℕ) → length queue ≡ n → ((x : ℕ) → g .own x ≡ true → x < n)
+    → Tree g queue (replicate n 0) 0 depth
+tree-none g queue n depth whole inside = record {
+  whole = let r = length-replicate {A = ℕ} n 0 in omega arith;
+  inside = λ x own. let r = length-replicate {A = ℕ} n 0 in let i = inside x own in omega arith;
   count = omega (arith, all-free n, length-replicate {A = ℕ} n 0);
   listed = λ p h. absurd (omega arith);
   placed = λ x h. absurd (none-reached n x h);
@@ -41,9 +44,10 @@ tree-none g queue n depth = record {
 }
 
 -- A place that is not reached has its place in the count, so there is room in a queue as long as `from`.
-pub room : (g : Ground) (queue from : List ℕ) (t : ℕ) (depth : ℕ → ℕ) (x : ℕ) → Tree g queue from t depth → x < length from
+pub room : (g : Ground) (queue from : List ℕ) (t : ℕ) (depth : ℕ → ℕ) (x : ℕ) → Tree g queue from t depth → g .own x ≡ true
     → (Reached from x → ⊥) → t < length from
-room g queue from t depth x tree inside new =
+room g queue from t depth x tree own new =
+    let inside = tree .inside x own in
     let z : getD from x 0 ≡ 0 = omega (arith, new) in
     let one : 1 ≤ countBy (eqb 0) from = subst (λ v. free v ≤ countBy (eqb 0) from) z (getD-le-sumBy free from x 0 inside) in
     omega (arith, tree .count)
@@ -70,8 +74,6 @@ added queue from t x y room inside new = record {
 pub record Comes (g : Ground) (queue from : List ℕ) (t x y : ℕ) (depth depth′ : ℕ → ℕ) : Type 0 where
   pub own : g .own x ≡ true
   pub new : Reached from x → ⊥
-  pub inside : x < length from
-  pub fits : length from ≤ length queue
   pub same : (z : ℕ) → Reached from z → depth′ z ≡ depth z
   pub hangs : (g .last x ≡ true) ⊎ (Reached from y × (g .near y x ≡ true) × (depth′ x ≡ depth y + 1))
   pub shallow : depth′ x ≤ t
@@ -81,9 +83,8 @@ module _ (g : Ground) (queue from : List ℕ) (t x y : ℕ) (depth depth′ : �
     (comes : Comes g queue from t x y depth depth′) where
   now : Added queue from t x y (set queue t x) (set from x (y + 1))
   now =
-      let r = room g queue from t depth x tree (comes .inside) (comes .new) in
-      let f = comes .fits in
-      added queue from t x y (omega arith) (comes .inside) (comes .new)
+      let r = room g queue from t depth x tree (comes .own) (comes .new) in
+      added queue from t x y (omega (arith, tree .whole)) (tree .inside x (comes .own)) (comes .new)
 
   -- What was reached still is, from where it was,
   pub stays : (z : ℕ) → Reached from z → Reached (set from x (y + 1)) z
@@ -131,7 +132,7 @@ module _ (g : Ground) (queue from : List ℕ) (t x y : ℕ) (depth depth′ : �
   fewer-free : t + 1 + countBy (eqb 0) (set from x (y + 1)) ≡ length (set from x (y + 1))
   fewer-free =
       let z : getD from x 0 ≡ 0 = omega (arith, comes .new) in
-      let e = sumBy-set free from x (y + 1) 0 (comes .inside) in
+      let e = sumBy-set free from x (y + 1) 0 (tree .inside x (comes .own)) in
       let one : free (getD from x 0) ≡ 1 = ap free z in
       let gone : free (y + 1) ≡ 0 = grind (arith, tells) in
       omega (arith, tree .count, length-set from x (y + 1))
@@ -146,6 +147,8 @@ module _ (g : Ground) (queue from : List ℕ) (t x y : ℕ) (depth depth′ : �
   -- With one place more the tree stands.
   pub tree-more : Tree g (set queue t x) (set from x (y + 1)) (t + 1) depth′
   tree-more = record {
+    whole = length-set queue t x ∙ tree .whole ∙ sym (length-set from x (y + 1));
+    inside = λ z own. let i = tree .inside z own in omega (arith, length-set from x (y + 1));
     count = fewer-free;
     listed = each-listed (λ p z. Reached (set from x (y + 1)) z) (λ p h. stays (getD queue p 0) (tree .listed p h)) reaches;
     placed =

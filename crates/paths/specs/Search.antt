@@ -3,11 +3,17 @@ use mathlib.Core.Path.{_≡_}
 use mathlib.Core.Bool.{Bool, true}
 use mathlib.Core.List.{List}
 use mathlib.Core.Logic.{_⊎_}
-use Prim.Native.Nat.{ℕ, _+_, _-_, _≤_, _<_}
+use Prim.Native.Nat.{ℕ, _+_, _*_, _-_, _≤_, _<_}
 use lib.Dec.{eqb}
 use lib.ListN.{length, getD}
 use Rattle.std.specs.shelf.Lists.{countBy}
 use Rattle.paths.specs.Ways.{Ground, crosses}
+
+-- The lent memory of a search on a board n wide: a byte for each cell of the board, and two in the queue and in `from`.
+pub record Lent (n : ℕ) (cells queue from : List ℕ) : Type 0 where
+  pub board : length cells ≡ n * n
+  pub queued : length queue ≡ 2 * (n * n)
+  pub marked : length from ≡ 2 * (n * n)
 
 -- For each place `from` has one more than the place from which it was reached, and 0 if it was not.
 abbrev pub Reached : List ℕ → ℕ → Type 0
@@ -23,8 +29,10 @@ pub record Child (g : Ground) (from : List ℕ) (depth : ℕ → ℕ) (x : ℕ) 
   pub deeper : depth x ≡ depth (parent from x) + 1
 
 -- The first t places of the queue are those that are reached, each once, in the order in which they were: no place is less deep than
--- one before it. Each is one's own, and at the last border or reached from another, less deep.
+-- one before it. Each is one's own, and at the last border or reached from another, less deep. The queue has room for all of one's own.
 pub record Tree (g : Ground) (queue from : List ℕ) (t : ℕ) (depth : ℕ → ℕ) : Type 0 where
+  pub whole : length queue ≡ length from
+  pub inside : (x : ℕ) → g .own x ≡ true → x < length from
   pub count : t + countBy (eqb 0) from ≡ length from
   pub listed : (p : ℕ) → p < t → Reached from (getD queue p 0)
   pub placed : (x : ℕ) → Reached from x → (p : ℕ) × (p < t) × (getD queue p 0 ≡ x)

@@ -18,11 +18,15 @@ pub record Ground : Type 0 where
   pub first : ℕ → Bool
   pub last : ℕ → Bool
 
+-- a stone of side s stands on cell i, as a way has it
+abbrev pub is-stone : List ℕ → ℕ → ℕ → Bool
+is-stone cells s i = ltb i (length cells) && eqb (getD cells i 0) s
+
 -- the ground of side s on a board: its stones, and its two borders
 abbrev pub ground : Board → ℕ → Ground
 ground b s = record {
   near = next-to (b .wide);
-  own = λ i. ltb i (length (b .cells)) && eqb (at b i) s;
+  own = is-stone (b .cells) s;
   first = begins (b .wide) s;
   last = ends (b .wide) s;
 }

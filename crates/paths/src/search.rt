@@ -4,8 +4,8 @@ use crate::words::word;
 use hex::Side;
 use hex::Size;
 ghost use mathlib.Core.Path.{_≡_};
-ghost use mathlib.Core.List.{List};
-ghost use Prim.Native.Nat.{ℕ, _+_, _*_, _^_, _<_};
+ghost use mathlib.Core.Bool.{_&&_};
+ghost use Prim.Native.Nat.{ℕ, _+_, _^_, _<_};
 ghost use lib.Dec.{eqb};
 ghost use lib.ListN.{length, getD, set};
 ghost use Rattle.std.specs.Options.{Cases};
@@ -13,8 +13,8 @@ ghost use Rattle.hex.specs.Board.{begins, ends, Connects};
 ghost use Rattle.hex.specs.Geometry.{laid};
 ghost use Rattle.hex.specs.Sides.{number};
 ghost use Rattle.paths.specs.Words.{words};
-ghost use Rattle.paths.specs.Ways.{ground};
-ghost use Rattle.paths.specs.Search.{Met};
+ghost use Rattle.paths.specs.Ways.{is-stone, ground};
+ghost use Rattle.paths.specs.Search.{Lent, Met};
 ghost use Rattle.paths.specs.Progress.{Sowing};
 
 // What the search has come to: a cell at the first border, or so many cells listed and none of them there.
@@ -26,7 +26,7 @@ enum Reach {
 // Whether a stone of the side stands on a cell.
 fn is_own(cells: &[u8], side: Side, cell: u16) -> bool
     requires { ⌜ cell < length (now cells) ⌝ }
-    ensures { λ r. ⌜ r ≡ eqb (getD (now (cells .entry)) cell 0) (number side) ⌝ }
+    ensures { λ r. ⌜ r ≡ is-stone (now (cells .entry)) (number side) cell ⌝ }
 {
     cells[cell as usize] == side.number()
 }
@@ -45,6 +45,23 @@ pub fn is_last(size: Size, side: Side, cell: u16) -> bool
     hex::borders(size, side, cell) / 2 == 1
 }
 
+// Whether the search can start on a cell: a stone of the side stands there, at the last border.
+fn is_source(size: Size, side: Side, cells: &[u8], cell: u16) -> bool
+    requires { ⌜ cell < length (now cells) ⌝ }
+    ensures { λ r. ⌜ r ≡ (is-stone (now (cells .entry)) (number side) cell && ends (size .n) (number side) cell) ⌝ }
+{
+    is_own(cells, side, cell) && is_last(size, side, cell)
+}
+
+// Whether a cell is to be listed: a stone of the side stands there, and it is not reached yet.
+fn is_fresh(side: Side, cells: &[u8], from: &[u8], cell: u16) -> bool
+    requires board { ⌜ cell < length (now cells) ⌝ }
+    requires marked { ⌜ cell < length (words (now from)) ⌝ }
+    ensures { λ r. ⌜ r ≡ (is-stone (now (cells .entry)) (number side) cell && eqb (getD (words (now (from .entry))) cell 0) 0) ⌝ }
+{
+    is_own(cells, side, cell) && word(from, cell) == 0
+}
+
 // Lists a cell, after `count` others, as reached from another.
 fn enlist(queue: &mut [u8], from: &mut [u8], count: u16, cell: u16, parent: u16)
     requires room { ⌜ count < length (words (now queue)) ⌝ }
@@ -59,30 +76,27 @@ fn enlist(queue: &mut [u8], from: &mut [u8], count: u16, cell: u16, parent: u16)
 
 // Lists the side's stones at its last border.
 fn sow(size: Size, side: Side, cells: &[u8], queue: &mut [u8], from: &mut [u8]) -> Reach
-    requires board { ⌜ length (now cells) ≡ size .n * size .n ⌝ }
-    requires queue { ⌜ length (now queue) ≡ 2 * (size .n * size .n) ⌝ }
-    requires from { ⌜ length (now from) ≡ 2 * (size .n * size .n) ⌝ }
+    requires { ⌜ Lent (size .n) (now cells) (now queue) (now from) ⌝ }
     ensures { λ r. ⌜ Sowing (ground (laid (size .n) (now (cells .entry))) (number side)) (words (now (queue .exit))) (words (now (from .exit))) r ⌝ }
 {
     from.fill(0);
     let mut count = 0;
     for cell in 0..size.cells() {
-        if is_own(cells, side, cell) && is_last(size, side, cell) {
-            enlist(queue, from, count, cell, cell);
-            if is_first(size, side, cell) {
-                return Reach::Met(cell);
-            }
-            count += 1;
+        if !is_source(size, side, cells, cell) {
+            continue;
         }
+        enlist(queue, from, count, cell, cell);
+        if is_first(size, side, cell) {
+            return Reach::Met(cell);
+        }
+        count += 1;
     }
     Reach::Listed(count)
 }
 
 // A stone of the side at its first border, from which `from` leads to the last by a shortest way. None if the side has not connected.
 pub fn search(size: Size, side: Side, cells: &[u8], queue: &mut [u8], from: &mut [u8]) -> Option<u16>
-    requires board { ⌜ length (now cells) ≡ size .n * size .n ⌝ }
-    requires queue { ⌜ length (now queue) ≡ 2 * (size .n * size .n) ⌝ }
-    requires from { ⌜ length (now from) ≡ 2 * (size .n * size .n) ⌝ }
+    requires { ⌜ Lent (size .n) (now cells) (now queue) (now from) ⌝ }
     ensures { λ r. ⌜ Cases r (Connects (laid (size .n) (now (cells .entry))) (number side) → ⊥) (Met (ground (laid (size .n) (now (cells .entry))) (number side)) (words (now (queue .exit))) (words (now (from .exit)))) ⌝ }
 {
     let mut count = match sow(size, side, cells, queue, from) {
@@ -97,7 +111,7 @@ pub fn search(size: Size, side: Side, cells: &[u8], queue: &mut [u8], from: &mut
             let Some(next) = hex::neighbour(size, cell, k) else {
                 continue;
             };
-            if !is_own(cells, side, next) || word(from, next) != 0 {
+            if !is_fresh(side, cells, from, next) {
                 continue;
             }
             enlist(queue, from, count, next, cell);

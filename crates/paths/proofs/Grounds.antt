@@ -1,0 +1,49 @@
+-- The ground of a side on a board: its own places are its stones, nearness goes both ways, and what crosses it is a way.
+use mathlib.Core.Path.{_≡_, refl, sym, ap, subst, _∙_}
+use mathlib.Core.Bool.{Bool, true, false, _&&_}
+use mathlib.Core.List.{List, [], _∷_}
+use Prim.Native.Nat.{ℕ, _*_, _<_}
+use native.Mathlib.Omega.{arith}
+use lib.Dec.{ltb, eqb}
+use lib.ListN.{length, getD}
+use Rattle.std.proofs.shelf.Tests.{and-parts, ltb-true, eqb-true}
+use Rattle.std.proofs.shelf.Ways.{tells}
+use Rattle.hex.specs.Board.{Board, at, next-to, begins, ends, goes-on, is-way, Connects}
+use Rattle.hex.specs.Geometry.{laid, Beside, neighbour-of}
+use Rattle.hex.proofs.Neighbours.{next-symmetric, neighbour-all}
+use Rattle.paths.specs.Search.{Lent}
+use Rattle.paths.specs.Words.{words}
+use Rattle.paths.specs.Ways.{Ground, is-stone, ground, leads, crosses}
+use Rattle.paths.proofs.TwoBytes.{length-words}
+use Rattle.paths.proofs.Crossings.{Mutual}
+use Rattle.paths.proofs.Fronts.{Fresh}
+
+-- A stone stands on a cell of the board.
+pub own-inside : (b : Board) (s i : ℕ) → ground b s .own i ≡ true → i < length (b .cells)
+own-inside b s i h = ltb-true i (length (b .cells)) (and-parts (ltb i (length (b .cells))) (eqb (at b i) s) h .0)
+
+pub ground-mutual : (b : Board) (s : ℕ) → Mutual (ground b s)
+ground-mutual b s i j = next-symmetric (b .wide) i j
+
+leads-on : (b : Board) (s i : ℕ) (js : List ℕ) → goes-on b s i js ≡ leads (ground b s) i js
+unfolding goes-on leads
+leads-on b s i [] = refl
+leads-on b s i (j ∷ js) = ap (λ r. (next-to (b .wide) i j && (ltb j (length (b .cells)) && eqb (at b j) s)) && r) (leads-on b s j js)
+
+-- A way of a side is a row of places that crosses its ground.
+pub way-crosses : (b : Board) (s : ℕ) (w : List ℕ) → is-way b s w ≡ crosses (ground b s) w
+unfolding is-way crosses
+way-crosses b s [] = refl
+way-crosses b s (i ∷ is) = ap (λ r. (begins (b .wide) s i && (ltb i (length (b .cells)) && eqb (at b i) s)) && r) (leads-on b s i is)
+
+-- The queue and `from` have a number for each cell of the board.
+pub lent-words : (n : ℕ) (bytes : List ℕ) → length bytes ≡ 2 * (n * n) → length (words bytes) ≡ n * n
+lent-words n bytes h = let e = length-words bytes in omega arith
+
+-- A stone that is not reached is a place to go on to from its neighbour.
+pub fresh-on : (n s : ℕ) (cells from : List ℕ) (y x : ℕ) → next-to n y x ≡ true → (is-stone cells s x && eqb (getD from x 0) 0) ≡ true
+    → Fresh (ground (laid n cells) s) from y x
+fresh-on n s cells from y x near test =
+    let (own, free) = and-parts (is-stone cells s x) (eqb (getD from x 0) 0) test in
+    let z = eqb-true (getD from x 0) 0 free in
+    record { own = own; near = near; new = λ r. omega arith }
