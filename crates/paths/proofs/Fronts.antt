@@ -1,6 +1,6 @@
 -- One step of the search: it looks round a place, neighbour by neighbour, and lists those of one's own that are not reached yet.
 use mathlib.Core.Path.{_≡_, refl, sym, ap, subst, _∙_}
-use mathlib.Core.Bool.{Bool, true, false, cond}
+use mathlib.Core.Bool.{Bool, true, false, _&&_, cond}
 use mathlib.Core.List.{List}
 use mathlib.Core.Logic.{_⊎_, inl, inr, ⊎-elim, _≢_}
 use Prim.Native.Nat.{ℕ, _+_, _≤_, _<_}
@@ -11,7 +11,7 @@ use lib.ListN.{length, getD, set}
 use Rattle.std.specs.declared.option.Option.{Option}
 use Rattle.std.specs.declared.option.Option.the-variants.{Some, None}
 use Rattle.std.proofs.shelf.Lists.{getD-set-other}
-use Rattle.std.proofs.shelf.Tests.{eq-eqb, ne-eqb, cond-true, cond-false, both-ways}
+use Rattle.std.proofs.shelf.Tests.{eq-eqb, ne-eqb, eqb-false, cond-true, cond-false, and-cases, both-ways}
 use Rattle.paths.specs.Ways.{Ground, crosses}
 use Rattle.paths.specs.Search.{Reached, Tree, Unmet, Spread, Front, Ahead, Met}
 use Rattle.paths.proofs.Trees.{room, Comes, stays, reaches, each-reached, each-listed, tree-more}
@@ -55,18 +55,32 @@ module _ {g : Ground} {queue from : List ℕ} {h t y : ℕ} {next : ℕ → Opti
   look-past-end none = passed (λ x e o. absurd (let z : None ≡ Some x = sym none ∙ e in grind arith))
 
   -- one that is not one's own,
-  pub look-past-other : (x : ℕ) → next k ≡ Some x → g .own x ≡ false → Looking g queue from h t y next (k + 1)
+  look-past-other : (x : ℕ) → next k ≡ Some x → g .own x ≡ false → Looking g queue from h t y next (k + 1)
   look-past-other x e other =
       passed (λ z f o. absurd (let s : x ≡ z = let s : Some x ≡ Some z = sym e ∙ f in cc in both-ways (g .own x) other (subst (λ z. g .own z ≡ true) (sym s) o)))
 
   -- and one that is reached already need no more.
-  pub look-past-reached : (x : ℕ) → next k ≡ Some x → Reached from x → Looking g queue from h t y next (k + 1)
+  look-past-reached : (x : ℕ) → next k ≡ Some x → Reached from x → Looking g queue from h t y next (k + 1)
   look-past-reached x e r =
       passed
       (λ z f o. let s : x ≡ z = let s : Some x ≡ Some z = sym e ∙ f in cc in
       let (p, b, q) = l .front .tree .placed x r in
       let d = l .front .level (l .inside) p b in
       (subst (Reached from) s r, omega (arith, ap (l .depth) s, ap (l .depth) q, ap (l .depth) (l .here))))
+
+  -- So a neighbour that is not to be listed is passed over.
+  pub look-past : (x : ℕ) → next k ≡ Some x → (g .own x && eqb (getD from x 0) 0) ≡ false → Looking g queue from h t y next (k + 1)
+  look-past x e test =
+      ⊎-elim (look-past-other x e)
+      (λ held. look-past-reached x e (let n = eqb-false (getD from x 0) 0 held in omega arith))
+      (and-cases (g .own x) (eqb (getD from x 0) 0) test)
+
+  pub look-own : g .own y ≡ true
+  look-own = l .front .tree .own y (subst (Reached from) (l .here) (l .front .tree .listed h (l .inside)))
+
+  -- The search has not come farther than there are places.
+  pub look-few : h < length from
+  look-few = let i = l .inside in omega (arith, l .front .tree .count)
 
   -- Once all neighbours of y are looked at, the search goes on to the next place.
   pub look-on : ((x : ℕ) → g .near y x ≡ true → g .own x ≡ true → (m : ℕ) × (m < k) × (next m ≡ Some x)) → Ahead g queue from (h + 1) t

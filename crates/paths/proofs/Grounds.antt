@@ -2,20 +2,22 @@
 use mathlib.Core.Path.{_≡_, refl, sym, ap, subst, _∙_}
 use mathlib.Core.Bool.{Bool, true, false, _&&_}
 use mathlib.Core.List.{List, [], _∷_}
-use Prim.Native.Nat.{ℕ, _*_, _<_}
+use Prim.Native.Nat.{ℕ, _*_, _≤_, _<_}
+use native.Mathlib.Nat.{mul-le-mul}
 use native.Mathlib.Omega.{arith}
 use lib.Dec.{ltb, eqb}
 use lib.ListN.{length, getD}
 use Rattle.std.proofs.shelf.Tests.{and-parts, ltb-true, eqb-true}
 use Rattle.std.proofs.shelf.Ways.{tells}
+use Rattle.std.specs.declared.option.Option.the-variants.{Some}
 use Rattle.hex.specs.Board.{Board, at, next-to, begins, ends, goes-on, is-way, Connects}
 use Rattle.hex.specs.Geometry.{laid, Beside, neighbour-of}
 use Rattle.hex.proofs.Neighbours.{next-symmetric, neighbour-all}
-use Rattle.paths.specs.Search.{Lent}
+use Rattle.paths.specs.Search.{Ahead}
 use Rattle.paths.specs.Words.{words}
 use Rattle.paths.specs.Ways.{Ground, is-stone, ground, leads, crosses}
 use Rattle.paths.proofs.TwoBytes.{length-words}
-use Rattle.paths.proofs.Crossings.{Mutual}
+use Rattle.paths.proofs.Crossings.{Mutual, no-way}
 use Rattle.paths.proofs.Fronts.{Fresh}
 
 -- A stone stands on a cell of the board.
@@ -36,9 +38,26 @@ unfolding is-way crosses
 way-crosses b s [] = refl
 way-crosses b s (i ∷ is) = ap (λ r. (begins (b .wide) s i && (ltb i (length (b .cells)) && eqb (at b i) s)) && r) (leads-on b s i is)
 
+-- Where a search has looked round all that it lists, the side has not connected.
+pub not-connected : (b : Board) (s : ℕ) (queue from : List ℕ) (h t : ℕ) → Ahead (ground b s) queue from h t → t ≤ h → Connects b s → ⊥
+not-connected b s queue from h t ahead all (w, way) = no-way (ground b s) queue from h t (ground-mutual b s) ahead all w (sym (way-crosses b s w) ∙ way)
+
+-- A board of the desk has so few cells that two bytes can count them.
+pub few-cells : (n : ℕ) → n ≤ 19 → n * n ≤ 361
+few-cells n few = mul-le-mul few few
+
 -- The queue and `from` have a number for each cell of the board.
 pub lent-words : (n : ℕ) (bytes : List ℕ) → length bytes ≡ 2 * (n * n) → length (words bytes) ≡ n * n
 lent-words n bytes h = let e = length-words bytes in omega arith
+
+-- The neighbours of a cell are all the stones that are near it.
+pub neighbours-on : (n s : ℕ) (cells : List ℕ) (y k : ℕ) → length cells ≡ n * n → is-stone cells s y ≡ true → 6 ≤ k
+    → (x : ℕ) → next-to n y x ≡ true → is-stone cells s x ≡ true → (m : ℕ) × (m < k) × (neighbour-of n y m ≡ Some x)
+neighbours-on n s cells y k board own all x near mine =
+    let a = own-inside (laid n cells) s y own in
+    let b = own-inside (laid n cells) s x mine in
+    let (m, few, e) = neighbour-all n y x (omega arith) (omega arith) near in
+    (m, omega arith, e)
 
 -- A stone that is not reached is a place to go on to from its neighbour.
 pub fresh-on : (n s : ℕ) (cells from : List ℕ) (y x : ℕ) → next-to n y x ≡ true → (is-stone cells s x && eqb (getD from x 0) 0) ≡ true

@@ -4,3 +4,4 @@ pub mod Crossings
 pub mod Fronts
 pub mod Sources
 pub mod Grounds
+pub mod Walks

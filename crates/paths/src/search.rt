@@ -103,7 +103,7 @@ pub fn search(size: Size, side: Side, cells: &[u8], queue: &mut [u8], from: &mut
         Reach::Met(cell) => return Some(cell),
         Reach::Listed(count) => count,
     };
-    let mut met = None;
+    let mut found = None;
     let mut head = 0;
     'search: while head < count {
         let cell = word(queue, head);
@@ -116,12 +116,12 @@ pub fn search(size: Size, side: Side, cells: &[u8], queue: &mut [u8], from: &mut
             }
             enlist(queue, from, count, next, cell);
             if is_first(size, side, next) {
-                met = Some(next);
+                found = Some(next);
                 break 'search;
             }
             count += 1;
         }
         head += 1;
     }
-    met
+    found
 }

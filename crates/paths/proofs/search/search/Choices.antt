@@ -11,11 +11,14 @@ use Rattle.paths.proofs.Fronts.{Looking}
 use Rattle.paths.proofs.search.search.Given as given
 
 abbrev pub Inv-search : given.InvT-search
-Inv-search l = Ahead (ground (laid (l .size .n) (l .cells)) (number (l .side))) (words (l .queue)) (words (l .from)) (l .head) (l .count)
+Inv-search l =
+    (l .found ≡ None)
+    × Ahead (ground (laid (l .size .n) (l .cells)) (number (l .side))) (words (l .queue)) (words (l .from)) (l .head) (l .count)
 
 abbrev pub Inv-loop-k : given.InvT-loop-k
 Inv-loop-k l =
-    Looking (ground (laid (l .size .n) (l .cells)) (number (l .side))) (words (l .queue)) (words (l .from)) (l .head) (l .count) (l .cell)
+    (l .found ≡ None)
+    × Looking (ground (laid (l .size .n) (l .cells)) (number (l .side))) (words (l .queue)) (words (l .from)) (l .head) (l .count) (l .cell)
     (neighbour-of (l .size .n) (l .cell)) (l .k)
 
 -- one place of the queue after another, of which there are no more than cells
