@@ -49,7 +49,7 @@ beyond g queue from h t depth bound both front late (i ∷ is) way =
     ⊎-elim
     (λ long. omega arith)
     (λ short. absurd (front .unmet i
-      (follows g from depth bound both (front .sources) (spread-below g queue from h t depth bound front late) i is own on short .0) first))
+    (follows g from depth bound both (front .sources) (spread-below g queue from h t depth bound front late) i is own on short .0) first))
     (cases-lt bound (length is))
 
 -- Once all listed places are looked round, there is no way.

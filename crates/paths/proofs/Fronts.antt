@@ -11,7 +11,7 @@ use lib.ListN.{length, getD, set}
 use Rattle.std.specs.declared.option.Option.{Option}
 use Rattle.std.specs.declared.option.Option.the-variants.{Some, None}
 use Rattle.std.proofs.shelf.Lists.{getD-set-other}
-use Rattle.std.proofs.shelf.Tests.{eq-eqb, ne-eqb, eqb-false, cond-true, cond-false, and-cases, both-ways}
+use Rattle.std.proofs.shelf.Tests.{eq-eqb, ne-eqb, eqb-true, eqb-false, cond-true, cond-false, and-parts, and-cases, both-ways}
 use Rattle.paths.specs.Ways.{Ground, crosses}
 use Rattle.paths.specs.Search.{Reached, Tree, Unmet, Spread, Front, Ahead, Met}
 use Rattle.paths.proofs.Trees.{room, Comes, stays, reaches, each-reached, each-listed, tree-more}
@@ -84,24 +84,28 @@ module _ {g : Ground} {queue from : List ℕ} {h t y : ℕ} {next : ℕ → Opti
 
   -- Once all neighbours of y are looked at, the search goes on to the next place.
   pub look-on : ((x : ℕ) → g .near y x ≡ true → g .own x ≡ true → (m : ℕ) × (m < k) × (next m ≡ Some x)) → Ahead g queue from (h + 1) t
-  look-on all = (l .depth, record {
-    tree = l .front .tree;
-    unmet = l .front .unmet;
-    sources = l .front .sources;
-    level = λ more p b. let a = l .front .level (l .inside) p b in let s = l .front .tree .sorted h (h + 1) (omega arith) more in omega arith;
-    done =
-        below-more (λ p. Spread g from (l .depth) (getD queue p 0)) h (l .front .done)
-        (subst (Spread g from (l .depth)) (sym (l .here)) (λ x near own. let (m, b, e) = all x near own in l .looked m b x e own));
-  })
+  look-on all = (
+    l .depth,
+    record {
+      tree = l .front .tree;
+      unmet = l .front .unmet;
+      sources = l .front .sources;
+      level = λ more p b. let a = l .front .level (l .inside) p b in let s = l .front .tree .sorted h (h + 1) (omega arith) more in omega arith;
+      done =
+          below-more (λ p. Spread g from (l .depth) (getD queue p 0)) h (l .front .done)
+          (subst (Spread g from (l .depth)) (sym (l .here)) (λ x near own. let (m, b, e) = all x near own in l .looked m b x e own));
+    },
+  )
 
 -- Place x, near y, is one's own and not reached yet.
-pub record Fresh (g : Ground) (from : List ℕ) (y x : ℕ) : Type 0 where
-  pub own : g .own x ≡ true
-  pub near : g .near y x ≡ true
-  pub new : Reached from x → ⊥
-
 module _ {g : Ground} {queue from : List ℕ} {h t y : ℕ} {next : ℕ → Option ℕ} {k x : ℕ} (l : Looking g queue from h t y next k)
-    (fresh : Fresh g from y x) where
+    (near : g .near y x ≡ true) (test : (g .own x && eqb (getD from x 0) 0) ≡ true) where
+  pub look-mine : g .own x ≡ true
+  look-mine = and-parts (g .own x) (eqb (getD from x 0) 0) test .0
+
+  new : Reached from x → ⊥
+  new r = let e = eqb-true (getD from x 0) 0 (and-parts (g .own x) (eqb (getD from x 0) 0) test .1) in omega arith
+
   depth′ : ℕ → ℕ
   depth′ = deepen (l .depth) x (l .depth y + 1)
 
@@ -109,7 +113,7 @@ module _ {g : Ground} {queue from : List ℕ} {h t y : ℕ} {next : ℕ → Opti
   same-depth : (z : ℕ) → Reached from z → depth′ z ≡ l .depth z
   unfolding depth′
   same-depth z r =
-      cond-false (eqb z x) (l .depth y + 1) (l .depth z) (ne-eqb z x (λ e. fresh .new (subst (Reached from) e r)))
+      cond-false (eqb z x) (l .depth y + 1) (l .depth z) (ne-eqb z x (λ e. new (subst (Reached from) e r)))
 
   new-depth : depth′ x ≡ l .depth y + 1
   unfolding depth′
@@ -120,17 +124,17 @@ module _ {g : Ground} {queue from : List ℕ} {h t y : ℕ} {next : ℕ → Opti
 
   comes : Comes g queue from t x y (l .depth) depth′
   comes = record {
-    own = fresh .own;
-    new = fresh .new;
+    own = look-mine;
+    new = new;
     same = same-depth;
-    hangs = inr (y-reached, fresh .near, new-depth);
+    hangs = inr (y-reached, near, new-depth);
     shallow =
         let s = l .front .tree .shallow h (l .inside) in let i = l .inside in omega (arith, new-depth, ap (l .depth) (l .here));
     deepest = λ p b. let d = l .front .level (l .inside) p b in omega (arith, new-depth, ap (l .depth) (l .here));
   }
 
   pub look-room : t < length from
-  look-room = room g queue from t (l .depth) x (l .front .tree) (fresh .own) (fresh .new)
+  look-room = room g queue from t (l .depth) x (l .front .tree) look-mine new
 
   tree : Tree g (set queue t x) (set from x (y + 1)) (t + 1) depth′
   tree = tree-more g queue from t x y (l .depth) depth′ (l .front .tree) comes
@@ -159,7 +163,7 @@ module _ {g : Ground} {queue from : List ℕ} {h t y : ℕ} {next : ℕ → Opti
     first = first;
     least = λ w way.
         let b = beyond g queue from h t (l .depth) (l .depth y) both (l .front)
-          (λ p late b. let s = l .front .tree .sorted h p late b in omega (arith, ap (l .depth) (l .here))) w way
+        (λ p late b. let s = l .front .tree .sorted h p late b in omega (arith, ap (l .depth) (l .here))) w way
         in
         omega (arith, new-depth);
   }

@@ -18,7 +18,6 @@ use Rattle.paths.specs.Words.{words}
 use Rattle.paths.specs.Ways.{Ground, is-stone, ground, leads, crosses}
 use Rattle.paths.proofs.TwoBytes.{length-words}
 use Rattle.paths.proofs.Crossings.{Mutual, no-way}
-use Rattle.paths.proofs.Fronts.{Fresh}
 
 -- A stone stands on a cell of the board.
 pub own-inside : (b : Board) (s i : ℕ) → ground b s .own i ≡ true → i < length (b .cells)
@@ -50,6 +49,10 @@ few-cells n few = mul-le-mul few few
 pub lent-words : (n : ℕ) (bytes : List ℕ) → length bytes ≡ 2 * (n * n) → length (words bytes) ≡ n * n
 lent-words n bytes h = let e = length-words bytes in omega arith
 
+-- The answer has room for all of them.
+pub room-for : (n : ℕ) (from out : List ℕ) → length from ≡ 2 * (n * n) → 2 * (n * n) ≤ length out → length (words from) ≤ length (words out)
+room-for n from out whole room = let e = lent-words n from whole in let f = length-words out in omega arith
+
 -- The neighbours of a cell are all the stones that are near it.
 pub neighbours-on : (n s : ℕ) (cells : List ℕ) (y k : ℕ) → length cells ≡ n * n → is-stone cells s y ≡ true → 6 ≤ k
     → (x : ℕ) → next-to n y x ≡ true → is-stone cells s x ≡ true → (m : ℕ) × (m < k) × (neighbour-of n y m ≡ Some x)
@@ -58,11 +61,3 @@ neighbours-on n s cells y k board own all x near mine =
     let b = own-inside (laid n cells) s x mine in
     let (m, few, e) = neighbour-all n y x (omega arith) (omega arith) near in
     (m, omega arith, e)
-
--- A stone that is not reached is a place to go on to from its neighbour.
-pub fresh-on : (n s : ℕ) (cells from : List ℕ) (y x : ℕ) → next-to n y x ≡ true → (is-stone cells s x && eqb (getD from x 0) 0) ≡ true
-    → Fresh (ground (laid n cells) s) from y x
-fresh-on n s cells from y x near test =
-    let (own, free) = and-parts (is-stone cells s x) (eqb (getD from x 0) 0) test in
-    let z = eqb-true (getD from x 0) 0 free in
-    record { own = own; near = near; new = λ r. omega arith }

@@ -51,13 +51,16 @@ module _ {g : Ground} {queue from : List ℕ} {i t : ℕ} (sown : Sown g queue f
 
   -- Once all of one's own places are passed, the search is ready to look round the first that is listed.
   pub sow-all : ((x : ℕ) → g .own x ≡ true → x < i) → Ahead g queue from 0 t
-  sow-all all = (flat, record {
-    tree = sown .tree;
-    unmet = sown .unmet;
-    sources = λ x o e. (sown .sources x (all x o) o e, refl);
-    level = λ some p l. omega arith;
-    done = λ p l. absurd (omega arith);
-  })
+  sow-all all = (
+    flat,
+    record {
+      tree = sown .tree;
+      unmet = sown .unmet;
+      sources = λ x o e. (sown .sources x (all x o) o e, refl);
+      level = λ some p l. omega arith;
+      done = λ p l. absurd (omega arith);
+    },
+  )
 
   module _ (test : (g .own i && g .last i) ≡ true) where
     pub sow-own : g .own i ≡ true

@@ -4,7 +4,7 @@ use mathlib.Core.List.{List, [], _∷_}
 use Prim.Native.Nat.{ℕ, zero, suc, _+_, _*_, _/_, _<_, _≤_}
 use native.Mathlib.Omega.{arith}
 use lib.ListN.{length, getD, set, take, drop, replicate}
-use Rattle.std.proofs.shelf.Lists.{drop-set-lt}
+use Rattle.std.proofs.shelf.Lists.{drop-set-lt, drop-drop}
 use Rattle.paths.specs.Words.{words}
 
 -- One number more is two bytes further on.
@@ -42,6 +42,12 @@ words-set (low ∷ (high ∷ bs)) (suc i) l h = rw (odd-more i, even-more i) (ap
 pub behind-set : (bs : List ℕ) (i k low high : ℕ) → i < k → drop (2 * k) (set (set bs (2 * i) low) (2 * i + 1) high) ≡ drop (2 * k) bs
 behind-set bs i k low high h =
     drop-set-lt (2 * k) (set bs (2 * i) low) (2 * i + 1) high (omega arith) ∙ drop-set-lt (2 * k) bs (2 * i) low (omega arith)
+
+-- Bytes that are the same behind k numbers are the same behind one more.
+pub behind-more : (bs cs : List ℕ) (k : ℕ) → drop (2 * k) bs ≡ drop (2 * k) cs → drop (2 * (k + 1)) bs ≡ drop (2 * (k + 1)) cs
+behind-more bs cs k same =
+    let two : 2 * (k + 1) ≡ 2 * k + 2 = omega arith in
+    rw two (sym (drop-drop 2 (2 * k) bs) ∙ ap (drop 2) same ∙ drop-drop 2 (2 * k) cs)
 
 -- The first k numbers stand in the first 2 * k bytes.
 pub words-take : (k : ℕ) (bs : List ℕ) → words (take (2 * k) bs) ≡ take k (words bs)

@@ -9,9 +9,13 @@ use borrow.Author.Count.{below-more}
 use lib.ListN.{length, getD, set, take, drop}
 use Rattle.std.proofs.shelf.Lists.{append-nil, append-assoc, length-take-le, take-more-set, getD-set-same, getD-set-other, getD-take}
 use Rattle.std.proofs.shelf.Tests.{and-from, both-ways}
-use Rattle.paths.specs.Ways.{Ground, leads, crosses}
+use Rattle.paths.specs.Ways.{Ground, ground, leads, crosses, Shortest, Written}
 use Rattle.paths.specs.Search.{Reached, parent, Child, Tree, Met}
+use Rattle.hex.specs.Board.{Board, is-way}
+use Rattle.paths.specs.Words.{words}
+use Rattle.paths.proofs.TwoBytes.{words-take}
 use Rattle.paths.proofs.Crossings.{Mutual}
+use Rattle.paths.proofs.Grounds.{way-crosses}
 
 -- The walk has come from the start to a place, and has written count places, each one step less deep than the one before: whatever
 -- leads on from the place makes them a way.
@@ -93,3 +97,23 @@ module _ {g : Ground} {queue from : List ℕ} {start cell count : ℕ} {out : Li
       let b = walking .falls j inside in
       let e : getD out i 0 ≡ getD out j 0 = sym (getD-take count out i 0 (omega arith)) ∙ same ∙ getD-take count out j 0 inside in
       omega (arith, ap (m .depth) e)
+
+-- What the walk has written at the last border is a shortest way.
+pub walk-written : (b : Board) (s : ℕ) {queue from : List ℕ} {start cell count : ℕ} (old new : List ℕ) (m : Met (ground b s) queue from start)
+    → Walking (ground b s) from (m .depth) start cell count (words new) → ground b s .last cell ≡ true → length from ≡ length (b .cells)
+    → count ≤ length (words new) → drop (2 * count) new ≡ drop (2 * count) old → Written b s old new count
+walk-written b s {count = count} old new m walking last whole room behind =
+    let long = length-take-le count (words new) room in
+    let shortest : Shortest b s (take count (words new)) =
+    record {
+      way = way-crosses b s (take count (words new)) ∙ walk-way m walking last;
+      least = λ v way. subst (λ k. k ≤ length v) (sym long) (walk-least m walking v (sym (way-crosses b s v) ∙ way));
+      once = λ i j before inside. walk-once m walking i j before (subst (λ k. j < k) long inside);
+      few = let f = walk-few m walking in omega arith;
+    }
+    in
+    record {
+      shortest = subst (Shortest b s) (sym (words-take count new)) shortest;
+      count = ap length (words-take count new) ∙ long;
+      behind = behind;
+    }

@@ -13,7 +13,14 @@ ghost use Rattle.paths.specs.Ways.{Answered};
 
 // Finds a shortest way of a side and writes its cells to `out`, two bytes a cell, low byte first: the answer is how many there are.
 // Where the side has not connected there is none, and `out` is left as it was. `queue` and `from` are scratch, two bytes a cell each.
-pub fn find_way(size: Size, side: Side, cells: &[u8], queue: &mut [u8], from: &mut [u8], out: &mut [u8]) -> Option<u16>
+pub fn find_way(
+    size: Size,
+    side: Side,
+    cells: &[u8],
+    queue: &mut [u8],
+    from: &mut [u8],
+    out: &mut [u8],
+) -> Option<u16>
     requires lent { ⌜ Lent (size .n) (now cells) (now queue) (now from) ⌝ }
     requires room { ⌜ 2 * (size .n * size .n) ≤ length (now out) ⌝ }
     ensures { λ r. ⌜ Answered (laid (size .n) (now (cells .entry))) (number side) (now (out .entry)) (now (out .exit)) r ⌝ }

@@ -95,7 +95,13 @@ fn sow(size: Size, side: Side, cells: &[u8], queue: &mut [u8], from: &mut [u8]) 
 }
 
 // A stone of the side at its first border, from which `from` leads to the last by a shortest way. None if the side has not connected.
-pub fn search(size: Size, side: Side, cells: &[u8], queue: &mut [u8], from: &mut [u8]) -> Option<u16>
+pub fn search(
+    size: Size,
+    side: Side,
+    cells: &[u8],
+    queue: &mut [u8],
+    from: &mut [u8],
+) -> Option<u16>
     requires { ⌜ Lent (size .n) (now cells) (now queue) (now from) ⌝ }
     ensures { λ r. ⌜ Cases r (Connects (laid (size .n) (now (cells .entry))) (number side) → ⊥) (Met (ground (laid (size .n) (now (cells .entry))) (number side)) (words (now (queue .exit))) (words (now (from .exit)))) ⌝ }
 {
