@@ -35,7 +35,7 @@ Served-size largest n = (0 < n) × (n ≤ largest) × (n ≤ 19)
 abbrev pub Unserved : Call → Type 0
 Unserved (Move cell) = ⊥
 Unserved Back = ⊥
-Unserved Who = Unit {0}
+Unserved Who = ⊥
 Unserved CanForce = Unit {0}
 
 -- a call in game g: its answer is written and right, with h the game afterwards; or it is not served yet

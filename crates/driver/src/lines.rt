@@ -20,7 +20,9 @@ use std::fmt;
 use std::fmt::Write;
 use text::Line;
 use text::read_line;
+use text::write_answer;
 use text::write_refusal;
+use wire::Answer;
 use wire::Call;
 use wire::Refusal;
 
@@ -176,8 +178,25 @@ fn serve(desk: &mut Desk, call: Call, out: &mut String) -> Result<(), Failed>
     match call {
         Call::Move(cell) => write_told(out, desk.make_move(cell))?,
         Call::Back => write_told(out, desk.take_back())?,
-        Call::Who => write_unreadable(out, 0)?,
+        Call::Who => write_who(out, desk)?,
         Call::CanForce => write_unreadable(out, 0)?,
+    }
+    Ok(())
+}
+
+// Adds who has connected and how, or 0 if nobody has.
+fn write_who(out: &mut String, desk: &mut Desk) -> fmt::Result
+    ensures { λ r. ⌜ made r (λ _. (a : games.Answer) × (string-bytes (now (out .exit)) ≡ string-bytes (now (out .entry)) ++ line-of a) × games.Right (desk-game (now (desk .entry))) games.who a (desk-game (now (desk .exit)))) ⌝ }
+{
+    match desk.who() {
+        None => {
+            write!(out, "0")?;
+        }
+        Some((side, count)) => {
+            let bytes = desk.way();
+            let end = count as usize * 2;
+            write_answer(out, Answer::Way(side, &bytes[0..end]))?;
+        }
     }
     Ok(())
 }

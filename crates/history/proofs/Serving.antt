@@ -9,7 +9,8 @@ use lib.Dec.{eqb, ltb}
 use lib.ListN.{length, getD, set, take}
 use Rattle.std.proofs.shelf.Lists.{length-push, take-at, take-more-set}
 use Rattle.std.proofs.shelf.Ways.{tells}
-use Rattle.hex.specs.Board.{pick, at, Connects}
+use Rattle.hex.specs.Board.{pick, at, is-way, Connects}
+use Rattle.hex.specs.Geometry.{laid}
 use Rattle.hex.specs.Games as games
 use Rattle.hex.specs.Sides.{number}
 use Rattle.hex.specs.Words.{words}
@@ -22,7 +23,7 @@ use Rattle.groups.specs.Meaning.{Open}
 use Rattle.history.specs.Played.{game-of, Played, winner-of, Kept}
 use Rattle.history.specs.Holds.{won-by, Memory, moves-in, formal, Holds, Served, Turned-away}
 use Rattle.history.specs.declared.game.Game.{Game}
-use Rattle.history.proofs.Filling.{room, turn-by-count}
+use Rattle.history.proofs.Filling.{room, turn-by-count, board-laid}
 use Rattle.history.proofs.Keeping.{played-more, played-less, kept-more, kept-less}
 use Rattle.history.proofs.Turns.{game-push, game-back, winner-open, winner-won, winner-push}
 
@@ -32,7 +33,7 @@ some-side One = omega arith
 some-side Two = omega arith
 
 -- where nobody has connected nobody has won
-not-won : (g : games.Game) → Open (g .board) → games.Won g → ⊥
+pub not-won : (g : games.Game) → Open (g .board) → games.Won g → ⊥
 not-won g free (games.won s side c) =
     ⊎-elim (λ e. free .0 (subst (Connects (g .board)) e c)) (λ e. free .1 (subst (Connects (g .board)) e c)) side
 
@@ -126,3 +127,22 @@ module _ (g : Game) (m : Memory) (held-now : Holds g m) (x : ℕ) where
             (won ∙ (ap (λ f. pick (eqb (getD (f .borders) x 0 % 4) 3) (turn-of n ms) 0) joined ∙ sym (winner-push n ms x now-played)));
         same-size = size;
       }
+
+-- nobody has connected, and that is the right answer to who has
+pub right-nobody : (g : Game) (m : Memory) → Holds g m → won-by (g .winner) ≡ 0 → games.Right (formal g m) games.who (games.number 0) (formal g m)
+right-nobody g m h e = games.nobody (not-won (formal g m) (winner-open (g .size .n) (moves-in g m) (h .played) (sym (h .winner) ∙ e)))
+
+-- the winner has connected on the board of the stones
+pub winner-connects : (g : Game) (m : Memory) → Holds g m → (side : Side) → won-by (g .winner) ≡ number side →
+    Connects (laid (g .size .n) (m .stones)) (number side) × ((number side ≡ 1) ⊎ (number side ≡ 2))
+winner-connects g m h side e =
+    let told = winner-won (g .size .n) (moves-in g m) (h .played) (number side) (sym (h .winner) ∙ e) (some-side side) in
+    (subst (λ b. Connects b (number side)) (sym (board-laid (g .size .n) (moves-in g m) (m .stones) (h .kept .stones-are))) (told .0), told .1)
+
+-- a way of the winner on the board of the stones is a right answer to who has connected
+pub right-way : (g : Game) (m : Memory) → Holds g m → (s : ℕ) (w : List ℕ) → (s ≡ 1) ⊎ (s ≡ 2) → is-way (laid (g .size .n) (m .stones)) s w ≡ true →
+    length w ≤ length (m .stones) → games.Right (formal g m) games.who (games.way s w) (formal g m)
+right-way g m h s w side way few =
+    games.by-way s w side
+    (subst (λ b. is-way b s w ≡ true) (board-laid (g .size .n) (moves-in g m) (m .stones) (h .kept .stones-are)) way)
+    (subst (λ (cs : List ℕ). length w ≤ length cs) (h .kept .stones-are) few)

@@ -10,7 +10,7 @@ use Rattle.wire.specs.Numbers.{reason}
 use Rattle.wire.specs.declared.refusal.Refusal.{Refusal}
 use Rattle.history.specs.Holds.{Memory, lent, formal, Holds, Turned-away}
 use Rattle.history.specs.declared.game.Game.{Game}
-use Rattle.session.specs.Keeps.{Fair, Written, Grouped}
+use Rattle.session.specs.Keeps.{Room, Fair, Written, Grouped}
 
 -- the parts of the fact, put together
 pub holds-from : (g : Game) (m : Memory) → Fair g m → Written g m → Grouped g m → Holds g m
@@ -37,11 +37,15 @@ written-in g m h = (h .kept .stones-are, h .kept .log-is, h .kept .log-long)
 pub grouped-in : (g : Game) (m : Memory) → Holds g m → Grouped g m
 grouped-in g m h = (ap (λ f. f .parents) (h .kept .groups-are), ap (λ f. f .borders) (h .kept .groups-are), h .kept .parents-long, h .winner)
 
+-- a game of the same size has the same room
+pub room-same : (g h : Game) (queue from way : ℕ) → h .size ≡ g .size → Room (g .size .n) queue from way → Room (h .size .n) queue from way
+room-same g h queue from way e r = subst (λ z. Room (z .n) queue from way) (sym e) r
+
 -- what a vector holds, of which all was lent and left as it is now
 abbrev pub whole : List ℕ → List ℕ → ℕ → List ℕ
 whole left items len = take len (left ++ drop (length left) items)
 
-given-back : (left items : List ℕ) (len : ℕ) → length left ≡ len → left ≡ whole left items len
+pub given-back : (left items : List ℕ) (len : ℕ) → length left ≡ len → left ≡ whole left items len
 given-back left items len e = sym (take-at left _ len e)
 
 -- Four vectors were lent. What the desk keeps, and what is right, is so of what they hold afterwards.

@@ -11,6 +11,10 @@ use Rattle.history.specs.Played.{winner-of}
 use Rattle.history.specs.Holds.{won-by, Memory, moves-in}
 use Rattle.history.specs.declared.game.Game.{Game}
 
+-- room for a search on a board n wide, and for the way that it finds: two bytes a cell each
+abbrev pub Room : ℕ → ℕ → ℕ → ℕ → Type 0
+Room n queue from way = (queue ≡ 2 * (n * n)) × (from ≡ 2 * (n * n)) × (way ≡ 2 * (n * n))
+
 -- the moves that are in memory can be made
 abbrev pub Fair : Game → Memory → Type 0
 Fair g m =

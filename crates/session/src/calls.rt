@@ -1,11 +1,12 @@
 // Opening a desk, and its calls. Each answer is right by the rules for the games before and after it.
 ghost use mathlib.Core.Path.{_≡_};
 ghost use Prim.Native.Nat.{ℕ, _<_, _≤_};
+ghost use Rattle.std.specs.Of.Vec.{vec-items};
 ghost use Rattle.std.specs.Results.{Cases};
 ghost use Rattle.hex.specs.Games as games;
 ghost use Rattle.history.specs.Holds.{won-by};
 ghost use Rattle.history.specs.Played.{winner-of};
-ghost use Rattle.session.specs.Desks.{desk-game, told, Opened};
+ghost use Rattle.session.specs.Desks.{desk-game, told, told-who, Opened};
 use crate::desk::Desk;
 use crate::desk::Unopened;
 use hex::Side;
@@ -36,6 +37,9 @@ impl Desk {
         let mut log = vec![in heap; 0; cells * 2]?;
         let mut parents = vec![in heap; 0; cells * 2]?;
         let mut borders = vec![in heap; 0; cells]?;
+        let queue = vec![in heap; 0; cells * 2]?;
+        let from = vec![in heap; 0; cells * 2]?;
+        let way = vec![in heap; 0; cells * 2]?;
         let game = history::start(size, &mut stones, &mut log, &mut parents, &mut borders);
         Ok(Desk {
             game,
@@ -43,6 +47,9 @@ impl Desk {
             log,
             parents,
             borders,
+            queue,
+            from,
+            way,
         })
     }
 
@@ -84,6 +91,30 @@ impl Desk {
             }
             Err(why) => Err(why),
         }
+    }
+
+    // Who has connected, and how: the side, and how many cells its way has. `way` then gives them.
+    pub fn who(&mut self) -> Option<(Side, u16)>
+        ensures { λ r. ⌜ games.Right (desk-game (now (self .entry))) games.who (told-who r (vec-items (now (self .exit) .way))) (desk-game (now (self .exit))) ⌝ }
+    {
+        let side = self.game.winner()?;
+        let size = self.game.size();
+        let found = paths::find_way(
+            size,
+            side,
+            &self.stones,
+            &mut self.queue,
+            &mut self.from,
+            &mut self.way,
+        );
+        Some((side, found.unwrap()))
+    }
+
+    // The bytes of the way that was found last, two a cell, low byte first.
+    pub fn way(&self) -> &[u8]
+        ensures { λ r. ⌜ now r ≡ vec-items (now (self .entry) .way) ⌝ }
+    {
+        &self.way
     }
 
     // Who has won.

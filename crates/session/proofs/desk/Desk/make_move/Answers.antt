@@ -3,7 +3,7 @@ use native.Mathlib.Omega.{arith}
 use Rattle.hex.specs.Games as games
 use Rattle.history.specs.Holds.{lent, Holds}
 use Rattle.session.specs.Desks.{memory-of}
-use Rattle.session.proofs.Facts.{holds-from, keeps-back, right-back, keeps-away, right-away}
+use Rattle.session.proofs.Facts.{holds-from, room-same, keeps-back, right-back, keeps-away, right-away}
 use Rattle.session.proofs.desk.Desk.make_move.Needs as need
 use Rattle.session.proofs.desk.Desk.make_move.Needs.{After-deref-mut-4}
 
@@ -20,24 +20,28 @@ make-move-requires c κs = subst (Holds (c .args .self .now .game)) (sym (lent-n
 
 pub ghost-self : need.ghost-self
 ghost-self c =
-    let d = c .args .self .now in
-    keeps-back
-    (c .make-move .last .stones) (c .make-move .last .log) (c .make-move .last .parents) (c .make-move .last .borders)
-    (d .stones .items) (d .log .items) (d .parents .items) (d .borders .items) (d .stones .len) (d .log .len) (d .parents .len) (d .borders .len)
-    (omega (arith, c .make-move .kept .stones, c .deref-mut .ensures .len)) (omega (arith, c .make-move .kept .log, c .deref-mut-2 .ensures .len))
-    (omega (arith, c .make-move .kept .parents, c .deref-mut-3 .ensures .len)) (omega (arith, c .make-move .kept .borders, c .deref-mut-4 .ensures .len))
-    (c .in-Ok .game) (c .in-Ok .ensures tt .holds)
+    let d = c .args .self .now in (
+      room-same (d .game) (c .in-Ok .game) _ _ _ (c .in-Ok .ensures tt .same-size) (d .room),
+      keeps-back
+          (c .make-move .last .stones) (c .make-move .last .log) (c .make-move .last .parents) (c .make-move .last .borders)
+          (d .stones .items) (d .log .items) (d .parents .items) (d .borders .items) (d .stones .len) (d .log .len) (d .parents .len) (d .borders .len)
+          (omega (arith, c .make-move .kept .stones, c .deref-mut .ensures .len)) (omega (arith, c .make-move .kept .log, c .deref-mut-2 .ensures .len))
+          (omega (arith, c .make-move .kept .parents, c .deref-mut-3 .ensures .len)) (omega (arith, c .make-move .kept .borders, c .deref-mut-4 .ensures .len))
+          (c .in-Ok .game) (c .in-Ok .ensures tt .holds),
+    )
 
 pub ghost-self-in-Err· : need.ghost-self-in-Err·
 ghost-self-in-Err· c =
     let d = c .args .self .now in
-    let before = need.at·ghost-self-in-Err· c .After-deref-mut-4 in
-    keeps-away
-    (c .make-move .last .stones) (c .make-move .last .log) (c .make-move .last .parents) (c .make-move .last .borders)
-    (d .stones .items) (d .log .items) (d .parents .items) (d .borders .items) (d .stones .len) (d .log .len) (d .parents .len) (d .borders .len)
-    (omega (arith, c .make-move .kept .stones, c .deref-mut .ensures .len)) (omega (arith, c .make-move .kept .log, c .deref-mut-2 .ensures .len))
-    (omega (arith, c .make-move .kept .parents, c .deref-mut-3 .ensures .len)) (omega (arith, c .make-move .kept .borders, c .deref-mut-4 .ensures .len))
-    (d .game) _ (memory-of d) (games.moves (c .args .cell)) (c .in-Err .why) (lent-now before) (held-now before) (c .in-Err .ensures tt)
+    let before = need.at·ghost-self-in-Err· c .After-deref-mut-4 in (
+      d .room,
+      keeps-away
+          (c .make-move .last .stones) (c .make-move .last .log) (c .make-move .last .parents) (c .make-move .last .borders)
+          (d .stones .items) (d .log .items) (d .parents .items) (d .borders .items) (d .stones .len) (d .log .len) (d .parents .len) (d .borders .len)
+          (omega (arith, c .make-move .kept .stones, c .deref-mut .ensures .len)) (omega (arith, c .make-move .kept .log, c .deref-mut-2 .ensures .len))
+          (omega (arith, c .make-move .kept .parents, c .deref-mut-3 .ensures .len)) (omega (arith, c .make-move .kept .borders, c .deref-mut-4 .ensures .len))
+          (d .game) _ (memory-of d) (games.moves (c .args .cell)) (c .in-Err .why) (lent-now before) (held-now before) (c .in-Err .ensures tt),
+    )
 
 pub returns-in-Ok : need.returns-in-Ok
 returns-in-Ok c =
