@@ -1,8 +1,12 @@
 -- What the parts of the driver say, put together as what a line is answered by.
-use mathlib.Core.Path.{_≡_, sym, subst}
+use mathlib.Core.Path.{_≡_, sym, ap, subst, _∙_}
 use mathlib.Core.Logic.{⊎-elim}
 use mathlib.Core.List.{List, _++_}
-use Prim.Native.Nat.{ℕ}
+use Prim.Native.Nat.{ℕ, min, _-_}
+use native.Mathlib.Omega.{arith}
+use lib.ListN.{length, take}
+use Rattle.std.proofs.shelf.Lists.{take-all}
+use Rattle.std.proofs.str.Laws.{order}
 use lib.Chars.{codes}
 use Rattle.std.specs.Written.{decimal}
 use Rattle.hex.specs.Games as games
@@ -29,3 +33,12 @@ called-next largest bytes call g h before after says =
     ⊎-elim
     (λ served. (line-of (served .0), served .1, Next.answered call (served .0) says (served .2)))
     (λ not′. (codes "refused 1 at " ++ decimal 0, not′ .2, subst (λ k. Next largest bytes g k (codes "refused 1 at " ++ decimal 0)) (sym (not′ .1)) (Next.unserved call says (not′ .0))))
+
+-- the front of some bytes, cut at their end if it would be longer
+pub front-of : (bytes xs : List ℕ) (e k : ℕ) → e ≡ min k (length bytes) → bytes ≡ xs → take k xs ≡ take (e - 0) bytes
+front-of bytes xs e k cut same =
+    ap (take k) (sym same) ∙
+    ⊎-elim
+    (λ less. let z : k ≡ e - 0 = omega arith in ap (λ j. take j bytes) z)
+    (λ more. let z : length bytes ≡ e - 0 = omega arith in take-all k bytes more ∙ (sym (take-all (length bytes) bytes (omega arith)) ∙ ap (λ j. take j bytes) z))
+    (order k (length bytes))

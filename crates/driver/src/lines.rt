@@ -189,12 +189,10 @@ fn write_who(out: &mut String, desk: &mut Desk) -> fmt::Result
     ensures { λ r. ⌜ made r (λ _. (a : games.Answer) × (string-bytes (now (out .exit)) ≡ string-bytes (now (out .entry)) ++ line-of a) × games.Right (desk-game (now (desk .entry))) games.who a (desk-game (now (desk .exit)))) ⌝ }
 {
     match desk.who() {
-        None => {
-            write!(out, "0")?;
-        }
+        None => write_told(out, Ok(0))?,
         Some((side, count)) => {
             let bytes = desk.way();
-            let end = count as usize * 2;
+            let end = (2 * count as usize).min(bytes.len());
             write_answer(out, Answer::Way(side, &bytes[0..end]))?;
         }
     }
