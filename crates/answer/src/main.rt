@@ -17,6 +17,7 @@ const HELP: &str =
   board N      a new board, N wide and N tall, N from 1 to 7: board N\n\
   move C       a stone of the side to move on cell C, numbered by rows from 0: the move's number, from 0\n\
   back         the last move is taken back: how many moves are left\n\
+  who          who has connected, and how: way S: C C C, from border to border; or 0 if nobody has\n\
 \n\
 A line that is refused is answered by 'refused R at P', and changes nothing:\n\
   1  it cannot be read (P: its first byte that does not fit), or there is no board yet\n\
