@@ -1,5 +1,7 @@
 // A way of a side: a row of its stones from its first border to its last, found by a breadth-first search in lent memory.
 mod search;
+#[cfg(test)]
+mod tests;
 mod words;
 
 use hex::Side;
