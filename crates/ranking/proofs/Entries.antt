@@ -76,8 +76,8 @@ written t i v h s f =
       there = rw (getD-set-same t (i / 4) (with-part byte (i % 4) v) 0 h) (part-same byte v (i % 4) s f (omega arith));
       others = λ j n. ⊎-elim
           (λ e. ap (λ k. part (getD after k 0) (j % 4)) e
-              ∙ rw (getD-set-same t (i / 4) (with-part byte (i % 4) v) 0 h) (part-other byte v (i % 4) (j % 4) s f (omega arith) (omega arith) (omega arith))
-              ∙ ap (λ k. part (getD t k 0) (j % 4)) (sym e))
+          ∙ rw (getD-set-same t (i / 4) (with-part byte (i % 4) v) 0 h) (part-other byte v (i % 4) (j % 4) s f (omega arith) (omega arith) (omega arith))
+          ∙ ap (λ k. part (getD t k 0) (j % 4)) (sym e))
           (λ e. rw (getD-set-other t (i / 4) (j / 4) (with-part byte (i % 4) v) 0 e))
           (cases-eq (j / 4) (i / 4));
     })

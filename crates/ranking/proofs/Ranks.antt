@@ -1,6 +1,6 @@
 -- Each position has a place of its own, below the number of positions.
 use mathlib.Core.Path.{_≡_, refl, sym, ap, ap₂, _∙_}
-use mathlib.Core.Logic.{_⊎_, inl, inr, ⊎-elim}
+use mathlib.Core.Logic.{_⊎_, inl, inr, ⊎-elim, _≢_}
 use Prim.Native.Nat.{ℕ, zero, suc, _+_, _-_, _*_, _/_, _%_, _^_, _≤_, _<_}
 use native.Mathlib.Nat.{pow-suc, sub-zero}
 use native.Mathlib.Omega.{arith}
@@ -8,7 +8,7 @@ use lib.Count.{ones, ones-step, ones-le}
 use Rattle.std.proofs.shelf.Tests.{cases-order}
 use Rattle.ranking.specs.Sets.{bit, Apart}
 use Rattle.ranking.specs.Positions.{Position, choose, count, before, rank, start, total, place}
-use Rattle.ranking.proofs.Counting.{mine-room, theirs-room, both-room, empty-room, count-none}
+use Rattle.ranking.proofs.Counting.{start-small, mine-room, theirs-room, both-room, empty-room, count-none}
 
 -- what can stand on a cell: m of mine and t of theirs
 data Letter : ℕ → ℕ → Type 0 where
@@ -124,6 +124,9 @@ stones-le (suc e) x y h = one-more (first (suc e) x y h) (stones-le e (x / 2) (y
     one-more : Letter (x % 2) (y % 2) → stones (x / 2) (y / 2) ≤ e → stones x y ≤ suc e
     one-more l h = omega (arith, head-le l, ones-step x, ones-step y)
 
+pub stones-few : (e x y : ℕ) → Position e x y → ones x + ones y ≤ e
+stones-few e x y h = stones-le e x y (laid e x y h)
+
 -- EACH POSITION HAS A PLACE below the number of positions,
 pub place-below : (e x y : ℕ) → Position e x y → place e x y < total e
 place-below e x y h =
@@ -142,12 +145,62 @@ pub place-once : (e x y z w : ℕ) → Position e x y → Position e z w → pla
 unfolding place
 place-once e x y z w h i same =
     let many : stones x y ≡ stones z w =
-        ⊎-elim (λ m. m) (⊎-elim (λ l. absurd (omega (arith, sooner e x y z w h l))) (λ l. absurd (omega (arith, sooner e z w x y i l)))) (cases-order (stones x y) (stones z w)) in
+    ⊎-elim (λ m. m) (⊎-elim (λ l. absurd (omega (arith, sooner e x y z w h l))) (λ l. absurd (omega (arith, sooner e z w x y i l)))) (cases-order (stones x y) (stones z w)) in
     let (a, b) = turns e x y h in
     let (c, d) = turns e z w i in
     rank-once e (ones x) (ones y) x y z w (laid e x y h) (laid e z w i) refl refl (omega arith) (omega arith) (omega (arith, ap (start e) many))
 
--- with 16 cells there are so many positions
-pub total-16 : total 16 ≡ 10165779
+-- an end with more cells has more positions
+start-wider : (e m : ℕ) → start e m ≤ start (suc e) m
+unfolding start
+start-wider e zero = omega arith
+start-wider e (suc m) = omega (arith, start-wider e m, empty-room e (m / 2) ((m + 1) / 2))
+
+total-wider : (e d : ℕ) → total e ≤ total (e + d)
+total-wider e zero = let same : e + 0 ≡ e = omega arith in rw same (omega arith)
+total-wider e (suc d) =
+    let more : e + suc d ≡ suc (e + d) = omega arith in
+    let next : suc (e + d) + 1 ≡ e + d + 1 + 1 = omega arith in
+    rw (more, next) (omega (arith, total-wider e d, start-wider (e + d) (e + d + 1), start-more (suc (e + d)) (e + d + 1) 1))
+
+-- with 16 cells there are so many positions, and with fewer cells no more
+total-16 : total 16 ≡ 10165779
 unfolding start count choose
 total-16 = refl
+
+pub total-most : (e : ℕ) → e ≤ 16 → total e ≤ 10165779
+total-most e h = let all : e + (16 - e) ≡ 16 = omega arith in omega (arith, total-16, rw all at (total-wider e (16 - e)))
+
+-- a place is a number that fits
+pub place-small : (e x y : ℕ) → e ≤ 16 → Position e x y → place e x y < 2 ^ 40
+place-small e x y h p = omega (arith, place-below e x y p, start-small e (e + 1) h (omega arith))
+
+-- Cell by cell, from the lowest: x and y are what is left of the sets z and w on the last k cells, with a and b stones, and p is how
+-- many positions come before by what was passed.
+pub record Walked (e z w k x y a b p : ℕ) : Type 0 where
+  pub sets : Laid k x y
+  pub a-is : ones x ≡ a
+  pub b-is : ones y ≡ b
+  pub sum : p + rank k x y ≡ place e z w
+
+pub walk-none : (e z w : ℕ) → Position e z w → Walked e z w e z w (ones z) (ones w) (start e (ones z + ones w))
+unfolding place
+walk-none e z w h = record { sets = laid e z w h; a-is = refl; b-is = refl; sum = refl }
+
+pub walk-all : {e z w k x y a b p : ℕ} → k ≡ 0 → Walked e z w k x y a b p → p ≡ place e z w
+unfolding rank
+walk-all {e} {z} {w} {k} {x} {y} {a} {b} {p} end h = let sum : p + rank 0 x y ≡ place e z w = rw end at (h .sum) in omega arith
+
+-- what is left is no more than fits on the cells that are left
+pub walk-few : {e z w k x y a b p : ℕ} → Walked e z w k x y a b p → (x % 2 ≤ a) × (y % 2 ≤ b) × (a + b ≤ k)
+walk-few {e} {z} {w} {k} {x} {y} {a} {b} {p} h = (left x a (h .a-is) .0, left y b (h .b-is) .0, omega (arith, stones-le k x y (h .sets), h .a-is, h .b-is))
+
+-- one more cell is passed, with what stands on it
+pub walk-more : {e z w k x y a b p : ℕ} → 0 < k → Walked e z w k x y a b p →
+    Walked e z w (k - 1) (x / 2) (y / 2) (a - x % 2) (b - y % 2) (p + before (k - 1) (x % 2) (y % 2) a b)
+unfolding rank
+walk-more {k = zero} pos h = absurd (omega arith)
+walk-more {e} {z} {w} {k = suc k} {x} {y} {a} {b} {p} pos h =
+    let less : suc k - 1 ≡ k = omega arith in
+    let sum : p + (before k (x % 2) (y % 2) a b + rank k (x / 2) (y / 2)) ≡ place e z w = rw (h .a-is, h .b-is) at (h .sum) in
+    rw less (record { sets = behind k x y (h .sets); a-is = left x a (h .a-is) .1; b-is = left y b (h .b-is) .1; sum = omega arith })

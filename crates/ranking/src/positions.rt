@@ -2,7 +2,7 @@
 ghost use mathlib.Core.Path.{_≡_};
 ghost use Prim.Native.Nat.{ℕ, _+_, _/_, _%_, _<_, _≤_};
 ghost use lib.ListN.{length};
-ghost use Rattle.ranking.specs.Positions.{Position, choose, count, place, total};
+ghost use Rattle.ranking.specs.Positions.{Position, choose, count, before, place, total};
 ghost use Rattle.ranking.specs.Triangle.{Rows, Starts};
 
 // What the places of positions are reckoned from, for ends with so many cells: Pascal's triangle, row after row, and how many
@@ -41,4 +41,81 @@ fn triangle() -> [u32; 289]
         rows[i] = next(&rows, i);
     }
     rows
+}
+
+// How many ways there are to lay a stones of one side and b of the other on k cells.
+fn ways(triangle: &[u32], k: u32, a: u32, b: u32) -> usize
+    requires long { ⌜ length (now triangle) ≡ 289 ⌝ }
+    requires rows { ⌜ Rows 289 (now triangle) ⌝ }
+    requires few { ⌜ k ≤ 16 ⌝ ∗ ⌜ a + b ≤ 16 ⌝ }
+    ensures { λ r. ⌜ r ≡ count k a b ⌝ }
+{
+    let stones = (a + b) as usize;
+    triangle[k as usize * 17 + stones] as usize * triangle[stones * 17 + a as usize] as usize
+}
+
+// How many of the ways to lay a and b stones on k + 1 cells come before those with m and t of them on the first cell.
+fn before(triangle: &[u32], k: u32, m: u32, t: u32, a: u32, b: u32) -> usize
+    requires long { ⌜ length (now triangle) ≡ 289 ⌝ }
+    requires rows { ⌜ Rows 289 (now triangle) ⌝ }
+    requires few { ⌜ k < 16 ⌝ ∗ ⌜ a + b ≤ 16 ⌝ ∗ ⌜ t ≤ b ⌝ }
+    ensures { λ r. ⌜ r ≡ before k m t a b ⌝ }
+{
+    if m == 1 {
+        ways(triangle, k, a, b)
+    } else if t == 1 {
+        ways(triangle, k + 1, a, b) - ways(triangle, k, a, b - 1)
+    } else {
+        0
+    }
+}
+
+impl Ranking {
+    // For ends with so many cells.
+    pub fn new(cells: u32) -> Ranking
+        requires { ⌜ cells ≤ 16 ⌝ }
+        ensures { λ r. ⌜ r .cells ≡ cells ⌝ }
+    {
+        let triangle = triangle();
+        let mut starts = [0; 18];
+        for m in 0..17 {
+            let stones = m as u32;
+            starts[m + 1] = starts[m] + ways(&triangle, cells, stones / 2, (stones + 1) / 2);
+        }
+        Ranking {
+            cells,
+            triangle,
+            starts,
+        }
+    }
+
+    // How many positions there are.
+    pub fn places(&self) -> usize
+        ensures value { λ r. ⌜ r ≡ total (now (self .entry) .cells) ⌝ }
+        ensures most { λ r. ⌜ r ≤ 10165779 ⌝ }
+    {
+        self.starts[self.cells as usize + 1]
+    }
+
+    // The place of a position: of the stones of the side to move, and those of the other.
+    pub fn place(&self, mine: u64, theirs: u64) -> usize
+        requires { ⌜ Position (now self .cells) mine theirs ⌝ }
+        ensures { λ r. ⌜ r ≡ place (now (self .entry) .cells) mine theirs ⌝ }
+    {
+        let mut a = mine.count_ones();
+        let mut b = theirs.count_ones();
+        let mut place = self.starts[(a + b) as usize];
+        let mut x = mine;
+        let mut y = theirs;
+        for k in (0..self.cells).rev() {
+            let m = (x % 2) as u32;
+            let t = (y % 2) as u32;
+            place += before(&self.triangle, k, m, t, a, b);
+            a -= m;
+            b -= t;
+            x /= 2;
+            y /= 2;
+        }
+        place
+    }
 }
