@@ -1,0 +1,12 @@
+pub mod Stones
+pub mod Ways
+pub mod Crossing
+pub mod NeverBoth
+pub mod MustEnd
+pub mod Cells
+pub mod Line
+pub mod NeverNeither
+pub mod Better
+pub mod Mirror
+pub mod NotBoth
+pub mod Decided
