@@ -8,6 +8,7 @@ use native.Mathlib.Omega.{arith}
 use lib.Dec.{eqb}
 use lib.Bits.{bitAnd, bitOr, and-step, or-step}
 use lib.Count.{ones, ones-step, trailingZeros, under}
+use Rattle.std.proofs.shelf.Tests.{cases-eq}
 use Rattle.ranking.specs.Sets.{bit, Within, Apart, One}
 
 -- a bit is 0 or 1
@@ -123,3 +124,22 @@ ones-more (suc k) x h =
     let half : (x + 2 ^ suc k) / 2 ≡ x / 2 + 2 ^ k = omega (arith, pow-suc 2 k) in
     let odd : (x + 2 ^ suc k) % 2 ≡ x % 2 = omega (arith, pow-suc 2 k) in
     omega (arith, ones-step x, ones-step (x + 2 ^ suc k), ap ones half, ones-more k (x / 2) h)
+
+-- Membership: in or out; in an intersection if in both; in a union if in one.
+pub in-or-out : (k x : ℕ) → (bit k x ≡ 1) ⊎ (bit k x ≡ 0)
+in-or-out k x = ⊎-elim inl (λ n. inr (omega (arith, bit-below k x))) (cases-eq (bit k x) 1)
+
+pub in-and : (k x y : ℕ) → bit k (bitAnd x y) ≡ 1 → (bit k x ≡ 1) × (bit k y ≡ 1)
+in-and k x y h = omega (arith, bit-and k x y, bit-below k x, bit-below k y)
+
+pub and-in : (k x y : ℕ) → bit k x ≡ 1 → bit k y ≡ 1 → bit k (bitAnd x y) ≡ 1
+and-in k x y h i = omega (arith, bit-and k x y)
+
+pub in-or : (k x y : ℕ) → bit k (bitOr x y) ≡ 1 → (bit k x ≡ 1) ⊎ (bit k y ≡ 1)
+in-or k x y h = ⊎-elim inl (λ out. inr (omega (arith, bit-or k x y))) (in-or-out k x)
+
+pub or-left : (k x y : ℕ) → bit k x ≡ 1 → bit k (bitOr x y) ≡ 1
+or-left k x y h = omega (arith, bit-or k x y, bit-below k y)
+
+pub or-right : (k x y : ℕ) → bit k y ≡ 1 → bit k (bitOr x y) ≡ 1
+or-right k x y h = omega (arith, bit-or k x y, bit-below k x)

@@ -5,6 +5,7 @@ mod table;
 
 pub use positions::Ranking;
 pub use sets::lowest;
+pub use sets::one;
 pub use table::clear;
 pub use table::get;
 pub use table::put;

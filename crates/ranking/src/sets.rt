@@ -11,3 +11,11 @@ pub fn lowest(set: u64) -> u32
 {
     set.trailing_zeros()
 }
+
+// The set of one cell.
+pub fn one(cell: u32) -> u64
+    requires { ⌜ cell < 64 ⌝ }
+    ensures { λ r. ⌜ r ≡ 2 ^ cell ⌝ }
+{
+    1 << cell
+}
