@@ -1,1 +1,2 @@
 pub mod Flooding
+pub mod Joining

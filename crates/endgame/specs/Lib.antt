@@ -1,1 +1,2 @@
 pub mod Floods
+pub mod Ends

@@ -2,7 +2,7 @@ use native.Mathlib.Omega.{arith}
 use lib.Bits.{bitAnd}
 use Rattle.ranking.proofs.Bits.{in-and, cell-le, cell-below}
 use Rattle.endgame.proofs.Flooding.{flooding-none, flooding-more, flooding-all}
-use Rattle.endgame.proofs.links.flood.Needs as need
+use Rattle.endgame.proofs.floods.flood.Needs as need
 
 pub loop-touched-holds : need.loop-touched-holds
 loop-touched-holds c = flooding-none (c .args .near .now) (c .args .from) (c .args .stones)
@@ -15,7 +15,7 @@ sub-rest c =
 pub index-near-k : need.index-near-k
 index-near-k c =
     let (on, left) = in-and (c .lowest-k .result) (c .loop-touched .touched) (c .loop-touched .rest) (c .lowest-k .ensures .within) in
-    cell-below 16 (c .lowest-k .result) (c .args .stones) (c .pre .stones) (c .loop-touched .inv .inside (c .lowest-k .result) left)
+    cell-below 16 (c .lowest-k .result) (c .args .stones) (c .pre) (c .loop-touched .inv .inside (c .lowest-k .result) left)
 
 pub loop-touched-again : need.loop-touched-again
 loop-touched-again c =
