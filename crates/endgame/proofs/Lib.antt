@@ -1,2 +1,4 @@
 pub mod Flooding
 pub mod Joining
+pub mod Laying
+pub mod Carried
