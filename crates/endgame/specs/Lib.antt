@@ -1,2 +1,3 @@
 pub mod Floods
 pub mod Ends
+pub mod Replies

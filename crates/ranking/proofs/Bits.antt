@@ -6,7 +6,7 @@ use Prim.Native.Nat.{ℕ, zero, suc, _+_, _-_, _*_, _/_, _%_, _^_, _≤_, _<_, m
 use native.Mathlib.Nat.{pow-suc}
 use native.Mathlib.Omega.{arith}
 use lib.Dec.{eqb}
-use lib.Bits.{bitAnd, bitOr, and-step, or-step}
+use lib.Bits.{bitAnd, bitOr, and-step, or-step, and-le-l}
 use lib.Count.{ones, ones-step, trailingZeros, under}
 use Rattle.std.proofs.shelf.Tests.{cases-eq}
 use Rattle.ranking.specs.Sets.{bit, Within, Apart, One}
@@ -143,3 +143,19 @@ or-left k x y h = omega (arith, bit-or k x y, bit-below k y)
 
 pub or-right : (k x y : ℕ) → bit k y ≡ 1 → bit k (bitOr x y) ≡ 1
 or-right k x y h = omega (arith, bit-or k x y, bit-below k x)
+
+-- one cell more fits if the cell does
+pub more-below : (e k x : ℕ) → k < e → x < 2 ^ e → bit k x ≡ 0 → x + 2 ^ k < 2 ^ e
+unfolding bit
+more-below zero k x l h out = absurd (omega arith)
+more-below (suc e) zero x l h out = omega (arith, pow-suc 2 e)
+more-below (suc e) (suc k) x l h out = omega (arith, pow-suc 2 e, pow-suc 2 k, more-below e k (x / 2) (omega arith) (omega (arith, pow-suc 2 e)) out)
+
+-- without a cell of its own, an intersection is smaller
+pub and-less : (k x y : ℕ) → bit k x ≡ 1 → bit k y ≡ 0 → bitAnd x y < x
+and-less k x y h out =
+    let apart : bitAnd x y ≡ x → ⊥ = λ same. omega (arith, bit-and k x y, ap (bit k) same) in omega (arith, and-le-l x y)
+
+-- no cell from e on is in a set of cells below e
+pub none-above : (e k x : ℕ) → x < 2 ^ e → e ≤ k → bit k x ≡ 0
+none-above e k x h l = ⊎-elim (λ i. absurd (omega (arith, cell-below e k x h i))) (λ out. out) (in-or-out k x)

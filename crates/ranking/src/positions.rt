@@ -8,7 +8,7 @@ ghost use Rattle.ranking.specs.Triangle.{Rows, Starts};
 // What the places of positions are reckoned from, for ends with so many cells: Pascal's triangle, row after row, and how many
 // positions have fewer stones.
 pub struct Ranking {
-    cells: u32,
+    pub cells: u32,
     triangle: [u32; 289],
     starts: [usize; 18],
     ghost few: { cells ≤ 16 },
