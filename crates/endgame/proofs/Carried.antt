@@ -72,7 +72,7 @@ module _ {b : Board} {es : List ℕ} (n : Numbered b es) (w : ℕ) (side : Side 
       let there : bit k (2 ^ k) ≡ 1 = ⊎-elim (λ p. p .1) (λ p. absurd (p .0 refl)) (bit-one k k) in
       let stone : bit k (x + 2 ^ k) ≡ 1 = ⊎-elim (λ p. p .1) (λ p. absurd (p .0 refl)) (bit-more k x out k) in
       let else : (j : ℕ) → j ≢ k → mark w (x + 2 ^ k) e j ≡ mark w x e j =
-          λ j a. ⊎-elim (λ p. absurd (a (p .0))) (λ p. mark-same w (x + 2 ^ k) x e e j (p .1) refl) (bit-more k x out j) in
+      λ j a. ⊎-elim (λ p. absurd (a (p .0))) (λ p. mark-same w (x + 2 ^ k) x e e j (p .1) refl) (bit-more k x out j) in
       mine (getD es k 0) (omega (arith, now .long, n .inside k l)) (now .on k l ∙ mark-empty w x e k out (or-right k c (2 ^ k) there))
       (forced-by (x + 2 ^ k) c f (laid-put (mark w (x + 2 ^ k) e) k w n now l (mark-stone w (x + 2 ^ k) e k stone) else)
       (λ j _. mark-more w (x + 2 ^ k) c e j (λ i h. or-left i c (2 ^ k) h)))

@@ -34,7 +34,7 @@ lay-laid b (e ∷ es) f h =
       wide = rest .wide;
       long = length-set cells e (f 0) ∙ rest .long;
       on = elim [
-        zero ↦ λ l. getD-set-same cells e (f 0) 0 inside
+        | zero ↦ λ l. getD-set-same cells e (f 0) 0 inside
         | suc k ↦ λ l. getD-set-other cells e (getD es k 0) (f 0) 0 (λ s. let same = h .1 (suc k) 0 l (omega arith) s in absurd (omega arith)) ∙ rest .on k (omega arith)
       ];
       off = λ i n. getD-set-other cells e i (f 0) 0 (λ s. n 0 (omega arith) (sym s)) ∙ rest .off i (λ k l. n (suc k) (omega arith));

@@ -73,14 +73,17 @@ searching-none e mine theirs p t {cut = cut} node c r = record {
   inside = r .inside;
   within = λ k h. c .inside k (r .lost-in k h);
   named = λ h. absurd (both-ways false refl h);
-  so-far = λ b es a s end turn _ _ sound. (trying refl (record {
-    inside = λ k h. c .inside k (r .lost-in k h);
-    answered = λ k h out.
-        let (d, apart, in-lost) = r .left k h out in
-        let threat = r .lost-in d in-lost in
-        let (l, no-x, no-y) = no-stone node d (c .inside d threat) in
-        (2 ^ d, ⊎-elim (λ q. absurd (apart (sym (q .0)))) (λ q. q .1) (bit-one d k), one-within d (cut .lost) in-lost, wins-at-once (swapped end) d l (node .position .theirs-fits) no-y (c .joins d threat));
-  }), sound);
+  so-far = λ b es a s end turn _ _ sound. (
+    trying refl (record {
+      inside = λ k h. c .inside k (r .lost-in k h);
+      answered = λ k h out.
+          let (d, apart, in-lost) = r .left k h out in
+          let threat = r .lost-in d in-lost in
+          let (l, no-x, no-y) = no-stone node d (c .inside d threat) in
+          (2 ^ d, ⊎-elim (λ q. absurd (apart (sym (q .0)))) (λ q. q .1) (bit-one d k), one-within d (cut .lost) in-lost, wins-at-once (swapped end) d l (node .position .theirs-fits) no-y (c .joins d threat));
+    }),
+    sound,
+  );
 }
 
 -- One more cell k is tried, and the node after it is told.
@@ -137,9 +140,9 @@ sound-put : {e : ℕ} {b : Board} {es : List ℕ} (a s x y free v : ℕ) (u w : 
 sound-put {e} {b} {es} a s x y free v u w node turn written known sound r z q f turn′ node′ =
     ⊎-elim
     (λ same. let (ez, eq) = place-once e z q x y (node′ .position) (node .position) same in
-        let ef = same-free node f (rw (ez, eq) at node′) in
-        let er = turn-once a r s x y (rw (ez, eq) at turn′) turn in
-        rw (ez, eq, ef, er, written .there) known)
+    let ef = same-free node f (rw (ez, eq) at node′) in
+    let er = turn-once a r s x y (rw (ez, eq) at turn′) turn in
+    rw (ez, eq, ef, er, written .there) known)
     (λ apart. rw (written .others (place e z q) apart) (sound r z q f turn′ node′))
     (cases-eq (place e z q) (place e x y))
 
@@ -177,12 +180,14 @@ pub told-at-once : (e : ℕ) (mine theirs : Links) (p : Position) (t : List ℕ)
 told-at-once e mine theirs p t k node c h = record {
   of = λ b es a s end turn apart others sound.
       let (l, out, _) = no-stone node k (c .inside k h) in
-      let fits = node .position .mine-fits in
-      (record {
-        wins = λ _. wins-at-once end k l fits out (c .joins k h);
-        moves = λ _ _. record { cell = k; is = refl; of = c .inside k h; carrier = 0; stands = at-once end k l fits out (c .joins k h) };
-        loses = λ w. absurd (both-ways true w refl);
-      }, sound);
+      let fits = node .position .mine-fits in (
+        record {
+          wins = λ _. wins-at-once end k l fits out (c .joins k h);
+          moves = λ _ _. record { cell = k; is = refl; of = c .inside k h; carrier = 0; stands = at-once end k l fits out (c .joins k h) };
+          loses = λ w. absurd (both-ways true w refl);
+        },
+        sound,
+      );
 }
 
 -- What the table knows is told.

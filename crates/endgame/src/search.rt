@@ -47,14 +47,23 @@ fn replies(threats: u64, free: u64) -> Cut
     ensures { λ r. ⌜ Replied threats free r ⌝ }
 {
     if threats == 0 {
-        return Cut { must: free, lost: 0 };
+        return Cut {
+            must: free,
+            lost: 0,
+        };
     }
     let threat = one(lowest(threats));
     let others = threats - threat;
     if others == 0 {
-        return Cut { must: threat, lost: threat };
+        return Cut {
+            must: threat,
+            lost: threat,
+        };
     }
-    Cut { must: 0, lost: threat | one(lowest(others)) }
+    Cut {
+        must: 0,
+        lost: threat | one(lowest(others)),
+    }
 }
 
 // Of the cells that must be tried, the one that is linked to the most free cells.
@@ -69,7 +78,8 @@ fn best(mine: &Links, theirs: &Links, free: u64, must: u64) -> u64
     while rest > 0 {
         let k = lowest(rest);
         rest -= one(k);
-        let links = (mine.near[k as usize] & free).count_ones() + (theirs.near[k as usize] & free).count_ones();
+        let links = (mine.near[k as usize] & free).count_ones()
+            + (theirs.near[k as usize] & free).count_ones();
         if links > most {
             most = links;
             best = k;
@@ -80,6 +90,7 @@ fn best(mine: &Links, theirs: &Links, free: u64, must: u64) -> u64
 
 // What a table's entry says: the side to move wins, or the other does; 0 says nothing.
 const WON: u8 = 1;
+
 const LOST: u8 = 2;
 
 impl Position {
@@ -89,14 +100,24 @@ impl Position {
         requires free { ⌜ step ≤ self .free ⌝ }
         ensures { λ r. ⌜ r ≡ moved self step ⌝ }
     {
-        Position { mine: self.theirs, theirs: self.mine + step, free: self.free - step }
+        Position {
+            mine: self.theirs,
+            theirs: self.mine + step,
+            free: self.free - step,
+        }
     }
 }
 
 // Who wins a position. Each position is looked at once: what is found goes into the table. A cell that connects at once is taken;
 // else, where the other threatens to connect, it is stopped; and after a move that loses only the cells of the winner's carrier
 // are tried, since any other move would leave that win as it is.
-pub fn solve(ranking: &Ranking, table: &mut [u8], mine: &Links, theirs: &Links, at: Position) -> Found
+pub fn solve(
+    ranking: &Ranking,
+    table: &mut [u8],
+    mine: &Links,
+    theirs: &Links,
+    at: Position,
+) -> Found
     requires node { ⌜ Node (now ranking .cells) (at .mine) (at .theirs) (at .free) ⌝ }
     requires room { ⌜ total (now ranking .cells) ≤ 4 * length (now table) ⌝ }
     ensures within { λ r. ⌜ Within (r .carrier) (at .free) ⌝ }
@@ -106,16 +127,28 @@ pub fn solve(ranking: &Ranking, table: &mut [u8], mine: &Links, theirs: &Links, 
     let own = completions(mine, at.mine, at.free);
     if own > 0 {
         let step = one(lowest(own));
-        return Found { won: true, carrier: step, step };
+        return Found {
+            won: true,
+            carrier: step,
+            step,
+        };
     }
     let place = ranking.place(at.mine, at.theirs);
     let known = get(table, place);
     if known > 0 {
-        return Found { won: known == WON, carrier: at.free, step: 0 };
+        return Found {
+            won: known == WON,
+            carrier: at.free,
+            step: 0,
+        };
     }
     let cut = replies(completions(theirs, at.theirs, at.free), at.free);
     let mut must = cut.must;
-    let mut found = Found { won: false, carrier: cut.lost, step: 0 };
+    let mut found = Found {
+        won: false,
+        carrier: cut.lost,
+        step: 0,
+    };
     while must > 0 {
         let step = best(mine, theirs, at.free, must);
         let next = solve(ranking, table, theirs, mine, at.after(step));
@@ -124,7 +157,11 @@ pub fn solve(ranking: &Ranking, table: &mut [u8], mine: &Links, theirs: &Links, 
             found.carrier |= next.carrier;
         } else {
             must = 0;
-            found = Found { won: true, carrier: next.carrier | step, step };
+            found = Found {
+                won: true,
+                carrier: next.carrier | step,
+                step,
+            };
         }
     }
     put(table, place, if found.won { WON } else { LOST });

@@ -159,3 +159,10 @@ and-less k x y h out =
 -- no cell from e on is in a set of cells below e
 pub none-above : (e k x : ℕ) → x < 2 ^ e → e ≤ k → bit k x ≡ 0
 none-above e k x h l = ⊎-elim (λ i. absurd (omega (arith, cell-below e k x h i))) (λ out. out) (in-or-out k x)
+
+-- what is within a set without a cell leaves that cell out
+pub left-out : (k x y : ℕ) → bit k y ≡ 1 → Within x (y - 2 ^ k) → bit k x ≡ 0
+left-out k x y h w = ⊎-elim
+    (λ i. ⊎-elim (λ p. absurd (omega (arith, w k i))) (λ p. absurd (p .0 refl)) (bit-less k y h k))
+    (λ out. out)
+    (in-or-out k x)
