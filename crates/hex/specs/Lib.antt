@@ -4,3 +4,4 @@ pub mod Promise
 pub mod Geometry
 pub mod Rows
 pub mod Sides
+pub mod Stones

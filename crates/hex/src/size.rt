@@ -39,6 +39,7 @@ impl Size {
         ensures some { λ r. ⌜ 0 < r ⌝ }
         ensures few { λ r. ⌜ r ≤ 361 ⌝ }
     {
-        self.n * self.n
+        let n = self.width();
+        n * n
     }
 }

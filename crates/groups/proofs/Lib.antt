@@ -1,0 +1,12 @@
+pub mod Bytes
+pub mod Climbs
+pub mod Chains
+pub mod Marks
+pub mod Groups
+pub mod Placing
+pub mod Spanning
+pub mod Ways
+pub mod Lifting
+pub mod Positions
+pub mod Theorems
+pub mod Clearing

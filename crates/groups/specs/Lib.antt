@@ -1,0 +1,4 @@
+pub mod Words
+pub mod Forest
+pub mod Moves
+pub mod Meaning

@@ -1,0 +1,3 @@
+pub mod Boards
+pub mod Neighbours
+pub mod Pairs
