@@ -6,3 +6,4 @@ pub mod Threats
 pub mod Nodes
 pub mod Full
 pub mod Searching
+pub mod Law
