@@ -1,0 +1,4 @@
+pub mod Floods
+pub mod Ends
+pub mod Replies
+pub mod Linked

@@ -1,0 +1,4 @@
+pub mod Bits
+pub mod Counting
+pub mod Ranks
+pub mod Entries

@@ -1,0 +1,4 @@
+pub mod Sets
+pub mod Positions
+pub mod Table
+pub mod Triangle
