@@ -1,4 +1,6 @@
 // Answers calls, a line each, as they come: for a person at a terminal or for a file.
+#![tactic(auto)]
+
 use anyhow::anyhow;
 use driver::answer_line;
 use std::env;

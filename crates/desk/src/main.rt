@@ -1,4 +1,6 @@
 // Answers calls as they come, on boards of every size that a desk has: for a person at a terminal or for a file.
+#![tactic(auto)]
+
 use programs::{Prints, Program};
 use serving::Limits;
 

@@ -1,4 +1,6 @@
 // Ends of games looked through: whether the side to move can bring about that it connects, and by which move.
+#![tactic(auto)]
+
 mod floods;
 mod links;
 mod search;

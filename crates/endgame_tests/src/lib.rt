@@ -1,4 +1,6 @@
 // Small positions looked through to their end.
+#![tactic(auto)]
+
 #[cfg(test)]
 mod tests {
     use hexboard::{Side, Size};

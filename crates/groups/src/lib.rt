@@ -1,4 +1,6 @@
 // Groups of stones that hang together, joined as stones come, in lent memory, with the borders they touch.
+#![tactic(auto)]
+
 ghost use Rattle.std.specs.Prelude.{◌≡◌, ℕ, ◌*◌, ◌%◌, [], length, ◌==◌, slice_index, slice_set};
 ghost use Rattle.hexboard.specs.Geometry.{neighbour_of, laid};
 ghost use Rattle.hexboard.specs.Sides.{number};

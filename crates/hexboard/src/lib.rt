@@ -1,4 +1,6 @@
 // Boards of six-sided cells: the sides, the sizes a board can have, and the geometry, in code.
+#![tactic(auto)]
+
 mod geometry;
 mod side;
 mod size;

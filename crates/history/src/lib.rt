@@ -1,4 +1,6 @@
 // Games in lent memory: moves made and taken back.
+#![tactic(auto)]
+
 mod game;
 mod laws;
 mod moves;

@@ -1,4 +1,6 @@
 // A way of a side: a row of its stones from its first border to its last, found by a breadth-first search in lent memory.
+#![tactic(auto)]
+
 mod search;
 #[cfg(test)]
 mod tests;

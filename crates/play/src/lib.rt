@@ -1,4 +1,6 @@
 // The desk: games in lent memory or in memory of their own, and what they answer to calls.
+#![tactic(auto)]
+
 mod bytes;
 mod calls;
 mod desk;

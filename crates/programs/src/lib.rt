@@ -1,4 +1,6 @@
 // What the programs share: what the arguments ask for, and the one loop that reads lines and prints answers.
+#![tactic(auto)]
+
 ghost use Rattle.std.specs.Prelude.{◌≡◌, MatchOption, ◌≢◌};
 ghost use Rattle.programs.specs.Flags.{written};
 

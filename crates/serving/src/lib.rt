@@ -1,4 +1,6 @@
 // Serves a desk line by line: what is read, what is called, and what is written. The programs share it.
+#![tactic(auto)]
+
 mod drawing;
 mod limits;
 mod lines;

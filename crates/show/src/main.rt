@@ -1,4 +1,6 @@
 // Shows the board that calls leave, a line each, at the end of the input.
+#![tactic(auto)]
+
 use programs::{Prints, Program};
 use serving::Limits;
 

@@ -1,4 +1,6 @@
 // Calls, answers and boards as text.
+#![tactic(auto)]
+
 mod drawing;
 mod laws;
 mod reading;

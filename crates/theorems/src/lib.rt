@@ -1,5 +1,7 @@
 // The theorems for boards of every size, each on the contract of a function: the statement, and what follows from it for somebody
 // who plays. The functions have nothing to do; that they are proved is what they are for.
+#![tactic(auto)]
+
 ghost use Rattle.std.specs.Prelude.{◌≡◌, ℕ, ◌<◌, ◌⊎◌};
 ghost use Rattle.hexboard.specs.Board.{Board, Connects, empty, empties, other};
 ghost use Rattle.hexboard.specs.Games.{Forces};

@@ -1,4 +1,6 @@
 // Whether the side to move can bring about that it connects, at the end of a game, and by which move.
+#![tactic(auto)]
+
 mod verdict;
 
 pub use verdict::{Verdict, can_force, table_bytes};

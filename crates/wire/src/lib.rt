@@ -1,4 +1,6 @@
 // Calls and answers, as values and as bytes.
+#![tactic(auto)]
+
 mod answer;
 mod call;
 mod front;

@@ -1,5 +1,7 @@
 // Games worked by hand on the board three wide, each the contract of a function, and the search that they follow by. The functions
 // have nothing to do; that they are proved is what they are for.
+#![tactic(auto)]
+
 ghost use Rattle.std.specs.Prelude.{ℕ, ◌≢◌, [], ◌∷◌, Decides};
 ghost use Rattle.hexboard.specs.Board.{Board, Connects};
 ghost use Rattle.worked.specs.Search.{finds_way};

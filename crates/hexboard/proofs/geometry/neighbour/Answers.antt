@@ -8,18 +8,18 @@ pub returns-then-cell-cells : goal.returns-then-cell-cells
 unfolding neighbour_of
 returns-then-cell-cells c = record { value = grind (arith, nat_tests); beside = tt }
 
-pub returns-in-err-down : goal.returns-in-err-down
+pub returns-in_err-down : goal.returns-in_err-down
 unfolding neighbour_of
-returns-in-err-down c =
-    let v : c.from-residual.result ≡ neighbour_of c.args.size.n c.args.cell c.args.k =
-    grind (arith, nat_tests, c.in-err-down.was)
+returns-in_err-down c =
+    let v : c.from_residual.result ≡ neighbour_of c.args.size.n c.args.cell c.args.k =
+    grind (arith, nat_tests, c.in_err-down.was)
     in
-    record { value = v; beside = neighbour_cases c.args.size.n c.args.cell c.args.k c.from-residual.result v }
+    record { value = v; beside = neighbour_cases c.args.size.n c.args.cell c.args.k c.from_residual.result v }
 
 pub returns : goal.returns
 unfolding neighbour_of
 returns c =
-    let v : c.cell_of.result ≡ neighbour_of c.args.size.n c.args.cell c.args.k =
-    grind (arith, nat_tests, c.in-ok-down.was)
+    let v : c.cell_on.result ≡ neighbour_of c.args.size.n c.args.cell c.args.k =
+    grind (arith, nat_tests, c.in_ok-down.was)
     in
-    record { value = v; beside = neighbour_cases c.args.size.n c.args.cell c.args.k c.cell_of.result v }
+    record { value = v; beside = neighbour_cases c.args.size.n c.args.cell c.args.k c.cell_on.result v }

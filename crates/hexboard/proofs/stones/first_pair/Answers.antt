@@ -5,14 +5,14 @@ use Rattle.hexboard.specs.Sides.{by_number}
 use Rattle.hexboard.proofs.Pairs.{below_empty, below_alone, before_end, before_other, pair_is_first}
 use Rattle.hexboard.proofs.stones.first_pair.Goals as goal
 
-pub cells-preserved-in-default : goal.cells-preserved-in-default
-cells-preserved-in-default c =
-    (c.cells.invariant.0, below_empty (laid c.args.size.n c.args.cells.now) c.cells.i c.in-default.ensures.value c.cells.invariant.1)
+pub cells-preserved-in_default : goal.cells-preserved-in_default
+cells-preserved-in_default c =
+    (c.cells.invariant.0, below_empty (laid c.args.size.n c.args.cells.now) c.cells.i c.in_default.ensures.value c.cells.invariant.1)
 
-pub loop-k-preserved-in-default-neighbour : goal.loop-k-preserved-in-default-neighbour
-loop-k-preserved-in-default-neighbour c = (
+pub loop-k-preserved-in_default-neighbour : goal.loop-k-preserved-in_default-neighbour
+loop-k-preserved-in_default-neighbour c = (
   c.loop-k.invariant.0,
-  before_end (laid c.args.size.n c.args.cells.now) c.cells.i c.loop-k.k c.in-default-neighbour.ensures.value c.loop-k.invariant.1,
+  before_end (laid c.args.size.n c.args.cells.now) c.cells.i c.loop-k.k c.in_default-neighbour.ensures.value c.loop-k.invariant.1,
 )
 
 pub loop-k-preserved : goal.loop-k-preserved

@@ -10,8 +10,8 @@ returns-then-at-bytes c = record {
 
 pub returns : goal.returns
 returns c =
-    let low = ap (λ (bs : List ℕ). get_or bs 0 0) c.to-le-bytes.ensures in
-    let high = ap (λ (bs : List ℕ). get_or bs 1 0) c.to-le-bytes.ensures in
+    let low = ap (λ (bs : List ℕ). get_or bs 0 0) c.to_le_bytes.ensures in
+    let high = ap (λ (bs : List ℕ). get_or bs 1 0) c.to_le_bytes.ensures in
     record {
       told = inside c.args.bytes.now c.args.place (omega arith);
       after = word_set c.args.bytes.now c.args.place _ _ _ (omega arith) (omega arith);

@@ -6,4 +6,4 @@ pub returns-then-low-bytes : goal.returns-then-low-bytes
 returns-then-low-bytes c = word_none c.args.bytes.now c.args.place (omega arith)
 
 pub returns : goal.returns
-returns c = word_there c.args.bytes.now c.args.place _ (omega arith) c.from-le-bytes.ensures
+returns c = word_there c.args.bytes.now c.args.place _ (omega arith) c.from_le_bytes.ensures
