@@ -4,8 +4,8 @@ use Rattle.ranking.specs.Positions.{before}
 use Rattle.ranking.proofs.Counting.{theirs_room}
 use Rattle.ranking.proofs.positions.before.Goals as goal
 
-pub overflow-sub-result : goal.overflow-sub-result
-overflow-sub-result c = omega (arith, theirs_room c.args.k c.args.a c.args.b (omega arith), simp add-one at c.ways-then-t-eq1.ensures)
+pub overflow_sub-result : goal.overflow_sub-result
+overflow_sub-result c = omega (arith, theirs_room c.args.k c.args.a c.args.b (omega arith), simp add-one at c.ways-then-t-eq1.ensures)
 
 pub returns-then-m-eq1 : goal.returns-then-m-eq1
 unfolding before

@@ -2,8 +2,8 @@ use Rattle.std.proofs.Common.{◌-◌, ◌/◌, ◌%◌, sym, arith}
 use Rattle.ranking.proofs.Counting.{column, row, above, choose_small}
 use Rattle.ranking.proofs.positions.next.Goals as goal
 
-pub overflow-add-result : goal.overflow-add-result
-overflow-add-result c =
+pub overflow_add-result : goal.overflow_add-result
+overflow_add-result c =
     let i = c.args.i in
     let sum = above i c.if-i-eq0.false c.if-i-lt17.false in
     omega (arith, c.requires.rows (i - 18) (omega arith), c.requires.rows (i - 17) (omega arith), sum, choose_small (i / 17) (i % 17) (omega arith))

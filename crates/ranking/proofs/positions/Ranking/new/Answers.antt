@@ -7,8 +7,8 @@ use Rattle.ranking.proofs.positions.Ranking.new.Goals as goal
 pub loop-m-init : goal.loop-m-init
 loop-m-init c = (refl, λ m h. let first : m ≡ 0 = omega arith in rw first (sym (start_none c.args.cells)))
 
-pub overflow-add-starts : goal.overflow-add-starts
-overflow-add-starts c =
+pub overflow_add-starts : goal.overflow_add-starts
+overflow_add-starts c =
     let m = c.loop-m.m in
     omega (arith, c.loop-m.invariant.1 m (omega arith), c.ways.ensures, start_next c.args.cells m, start_small c.args.cells (m + 1) c.requires (omega arith))
 

@@ -16,16 +16,16 @@ pub before-place-requires : goal.before-place-requires
 before-place-requires c =
     let few = walk_few c.loop-k.invariant in record { long = search rules; rows = c.args.self.now.rows; few = omega arith }
 
-pub overflow-add-place-in-loop-k : goal.overflow-add-place-in-loop-k
-overflow-add-place-in-loop-k c =
+pub overflow_add-place-in-loop-k : goal.overflow_add-place-in-loop-k
+overflow_add-place-in-loop-k c =
     let on = walk_more c.loop-k-test.true c.loop-k.invariant in
     omega (arith, on.sum, place_small c.args.self.now.cells c.args.mine c.args.theirs c.args.self.now.few c.requires)
 
-pub overflow-sub-a : goal.overflow-sub-a
-overflow-sub-a c = (walk_few c.loop-k.invariant).0
+pub overflow_sub-a : goal.overflow_sub-a
+overflow_sub-a c = (walk_few c.loop-k.invariant).0
 
-pub overflow-sub-b : goal.overflow-sub-b
-overflow-sub-b c = (walk_few c.loop-k.invariant).1
+pub overflow_sub-b : goal.overflow_sub-b
+overflow_sub-b c = (walk_few c.loop-k.invariant).1
 
 pub loop-k-preserved : goal.loop-k-preserved
 loop-k-preserved c = rw c.before-place.ensures (walk_more c.loop-k-test.true c.loop-k.invariant)
