@@ -7,6 +7,6 @@ returns-then-at-parents c = sym (write_past c.args.parents.now c.args.cell c.arg
 
 pub returns : goal.returns
 returns c =
-    let low = ap (λ bs. get_or bs 0 0) c.to-le-bytes.ensures in
-    let high = ap (λ bs. get_or bs 1 0) c.to-le-bytes.ensures in
+    let low = ap (λ bs. get_or bs 0 0) c.to_le_bytes.ensures in
+    let high = ap (λ bs. get_or bs 1 0) c.to_le_bytes.ensures in
     word_set c.args.parents.now c.args.cell _ _ c.args.above c.if-at-parents.false (omega arith)

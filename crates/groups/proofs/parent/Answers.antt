@@ -8,4 +8,4 @@ returns-then-low-parents c = sym (read_past c.args.parents.now c.args.cell c.arg
 pub returns : goal.returns
 returns c =
     let read = word_at c.args.parents.now c.args.cell c.args.cell c.if-low-parents.false in
-    omega (arith, c.from-le-bytes.ensures)
+    omega (arith, c.from_le_bytes.ensures)
