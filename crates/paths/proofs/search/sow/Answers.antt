@@ -20,25 +20,25 @@ loop-cell-init c =
     let inside = λ (x : ℕ) (own : g.own x ≡ true). subst (λ m. x < m) c.requires.board (own_inside (laid n c.args.cells.now) (number c.args.side) x own) in
     subst (λ from. Sown g queue from 0 0) (sym cleared) (sow_none g queue (n * n) (lent_words n c.args.queue.now c.requires.queued) inside)
 
-pub loop-cell-preserved-then-not-is-source : goal.loop-cell-preserved-then-not-is-source
-loop-cell-preserved-then-not-is-source c = sow_past c.loop-cell.invariant (sym c.if-not-is-source.ensures)
+pub loop-cell-preserved-then-not-is_source : goal.loop-cell-preserved-then-not-is_source
+loop-cell-preserved-then-not-is_source c = sow_past c.loop-cell.invariant (sym c.if-not-is_source.ensures)
 
 pub enlist-requires : goal.enlist-requires
 enlist-requires c =
     let sown = c.loop-cell.invariant in
-    let test = sym c.if-not-is-source.ensures in
+    let test = sym c.if-not-is_source.ensures in
     let free = sow_room sown test in
     record { room = omega (arith, sown.tree.whole); inside = sown.tree.inside c.loop-cell.cell (sow_own sown test); fits = omega arith }
 
-pub returns-then-is-first : goal.returns-then-is-first
-returns-then-is-first c =
+pub returns-then-is_first : goal.returns-then-is_first
+returns-then-is_first c =
     let g = ground (laid c.args.size.n c.args.cells.now) (number c.args.side) in
     subst₂ (λ queue from. Met g queue from c.loop-cell.cell) (sym c.enlist.ensures.listed) (sym c.enlist.ensures.reached)
-    (sow_met c.loop-cell.invariant (sym c.if-not-is-source.ensures) (sym c.if-is-first.ensures))
+    (sow_met c.loop-cell.invariant (sym c.if-not-is_source.ensures) (sym c.if-is_first.ensures))
 
-pub overflow-add-count : goal.overflow-add-count
-overflow-add-count c =
-    let free = sow_room c.loop-cell.invariant (sym c.if-not-is-source.ensures) in
+pub overflow_add-count : goal.overflow_add-count
+overflow_add-count c =
+    let free = sow_room c.loop-cell.invariant (sym c.if-not-is_source.ensures) in
     let long = lent_words c.args.size.n c.loop-cell.from (c.loop-cell.auto.from ∙ c.fill.ensures.len ∙ c.requires.marked) in
     omega arith
 
@@ -47,4 +47,4 @@ loop-cell-preserved c =
     let g = ground (laid c.args.size.n c.args.cells.now) (number c.args.side) in
     subst₂ (λ queue from. Sown g queue from (c.loop-cell.cell + 1) (c.loop-cell.count + 1))
     (sym c.enlist.ensures.listed) (sym c.enlist.ensures.reached)
-    (sow_more c.loop-cell.invariant (sym c.if-not-is-source.ensures) (sym c.if-is-first.ensures))
+    (sow_more c.loop-cell.invariant (sym c.if-not-is_source.ensures) (sym c.if-is_first.ensures))

@@ -13,10 +13,10 @@ pub returns : goal.returns
 returns c =
     let bytes = c.args.bytes.now in
     let i = c.args.i in
-    let low = get_or c.to-le-bytes.result 0 0 in
-    let high = get_or c.to-le-bytes.result 1 0 in
-    let l : low ≡ c.args.value % 256 = ap (λ r. get_or r 0 0) c.to-le-bytes.ensures in
-    let h : high ≡ c.args.value / 256 % 256 = ap (λ r. get_or r 1 0) c.to-le-bytes.ensures in
+    let low = get_or c.to_le_bytes.result 0 0 in
+    let high = get_or c.to_le_bytes.result 1 0 in
+    let l : low ≡ c.args.value % 256 = ap (λ r. get_or r 0 0) c.to_le_bytes.ensures in
+    let h : high ≡ c.args.value / 256 % 256 = ap (λ r. get_or r 1 0) c.to_le_bytes.ensures in
     let whole : low + high * 256 ≡ c.args.value = omega arith in
     record {
       value = words_set bytes i low high ∙ ap (λ v. set (words bytes) i v) whole;

@@ -9,4 +9,4 @@ pub bounds-bytes-at-2 : goal.bounds-bytes-at-2
 bounds-bytes-at-2 c = omega (arith, length_words c.args.bytes.now)
 
 pub returns : goal.returns
-returns c = c.from-le-bytes.ensures ∙ sym (get_d_words c.args.bytes.now c.args.i c.requires)
+returns c = c.from_le_bytes.ensures ∙ sym (get_d_words c.args.bytes.now c.args.i c.requires)
