@@ -33,7 +33,8 @@ fn write_numbered(out: &mut String, word: &str, n: u16) -> fmt::Result
     ensures added { OnOk result (string_bytes out.new ≡ string_bytes out.old ++ (word.now ++ decimal n)) }
     ensures asks { Numbered word.now n (word.now ++ decimal n) }
 {
-    write!(out, "{word}{n}")
+    write!(out, "{word}{n}")?;
+    Ok(())
 }
 
 // Adds the line of an answer, without its end.
@@ -42,7 +43,7 @@ pub fn write_answer(out: &mut String, answer: Answer<'_>) -> fmt::Result
 {
     match answer {
         Answer::Refused(why) => write_refusal(out, why),
-        Answer::Number(n) => write!(out, "{n}"),
+        Answer::Number(n) => Ok(write!(out, "{n}")?),
         Answer::Way(side, cells) => write_way(out, side, cells),
         Answer::Yes(next) => write_yes(out, next),
         Answer::No => out.write_str("no"),
@@ -56,7 +57,8 @@ pub fn write_refusal(out: &mut String, why: Refusal) -> fmt::Result
 {
     let number = why.number();
     let place = why.place();
-    write!(out, "refused {number} at {place}")
+    write!(out, "refused {number} at {place}")?;
+    Ok(())
 }
 
 // Adds yes with a cell, given one more than it, or yes alone.
@@ -67,7 +69,8 @@ fn write_yes(out: &mut String, next: u16) -> fmt::Result
         return out.write_str("yes");
     }
     let cell = next - 1;
-    write!(out, "yes {cell}")
+    write!(out, "yes {cell}")?;
+    Ok(())
 }
 
 // Adds the side and the cells of a way.

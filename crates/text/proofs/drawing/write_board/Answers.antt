@@ -11,4 +11,4 @@ loop-row-init c = sym (append-nil _)
 pub loop-row-preserved : goal.loop-row-preserved
 loop-row-preserved c =
     each_more (row_line c.args.size.n c.args.cells.now (words c.args.way.now)) c.loop-row.row (string_bytes c.args.out.now) _ _
-    c.loop-row.invariant c.in-ok-write-row.ensures
+    c.loop-row.invariant c.in_ok-write_row.ensures

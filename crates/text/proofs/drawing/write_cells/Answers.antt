@@ -11,4 +11,4 @@ loop-column-init c = sym (append-nil _)
 pub loop-column-preserved : goal.loop-column-preserved
 loop-column-preserved c =
     each_more (cell_shown c.args.size.n c.args.cells.now (words c.args.way.now) c.args.row) c.loop-column.column (string_bytes c.args.out.now) _ _
-    c.loop-column.invariant (let wrote = c.in-ok-write.ensures.bytes in cc)
+    c.loop-column.invariant (let wrote = c.in_ok-write.ensures.bytes in cc)

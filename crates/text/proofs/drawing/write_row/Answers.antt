@@ -6,4 +6,4 @@ pub returns : goal.returns
 returns c =
     made_if_ok _ _
     (λ ok.
-    three_parts (string_bytes c.args.out.now) _ _ _ _ _ (codes "\n") c.in-ok-write-spaces.ensures c.in-ok-write-cells.ensures (c.write-str.ensures.ok ok))
+    three_parts (string_bytes c.args.out.now) _ _ _ _ _ (codes "\n") c.in_ok-write_spaces.ensures c.in_ok-write_cells.ensures (c.write_str.ensures.ok ok))

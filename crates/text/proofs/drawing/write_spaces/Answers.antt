@@ -8,4 +8,4 @@ loop-init c = sym (append-nil _)
 
 pub loop-preserved : goal.loop-preserved
 loop-preserved c =
-    each_more (λ _. codes " ") c.loop.counter (string_bytes c.args.out.now) _ _ c.loop.invariant (c.in-ok-write-str.ensures.ok refl)
+    each_more (λ _. codes " ") c.loop.counter (string_bytes c.args.out.now) _ _ c.loop.invariant (c.in_ok-write_str.ensures.ok refl)

@@ -8,5 +8,5 @@ returns-then-k-cells c = omega (arith, words_long c.args.cells.now)
 pub returns : goal.returns
 returns c = (
   omega (arith, words_long c.args.cells.now),
-  c.from-le-bytes.ensures ∙ sym (word_at c.args.cells.now c.args.k c.if-k-cells.false),
+  c.from_le_bytes.ensures ∙ sym (word_at c.args.cells.now c.args.k c.if-k-cells.false),
 )

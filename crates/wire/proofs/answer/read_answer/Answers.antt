@@ -11,18 +11,18 @@ returns-in-5 c = (tt, a_byte c.args.bytes.now 5 (search rules) (search rules))
 
 pub returns-in-1 : goal.returns-in-1
 returns-in-1 c =
-    (tt, a_number c.args.bytes.now (λ i. (c.type-inv.bytes i).fits) 1 c.from-le-bytes.result (search rules) (search rules) c.from-le-bytes.ensures)
+    (tt, a_number c.args.bytes.now (λ i. (c.type_inv.bytes i).fits) 1 c.from_le_bytes.result (search rules) (search rules) c.from_le_bytes.ensures)
 
 pub returns-in-3 : goal.returns-in-3
 returns-in-3 c =
-    (tt, a_number c.args.bytes.now (λ i. (c.type-inv.bytes i).fits) 3 c.from-le-bytes-in-3.result (search rules) (search rules) c.from-le-bytes-in-3.ensures)
+    (tt, a_number c.args.bytes.now (λ i. (c.type_inv.bytes i).fits) 3 c.from_le_bytes-in-3.result (search rules) (search rules) c.from_le_bytes-in-3.ensures)
 
 pub returns-in-0 : goal.returns-in-0
 returns-in-0 c =
-    by_two_numbers c.args.bytes.now (λ i. (c.type-inv.bytes i).fits) 0 c.from-le-bytes-in-0.result c.from-le-bytes-in-0-2.result [] (search rules) (search rules)
-    c.from-le-bytes-in-0.ensures c.from-le-bytes-in-0-2.ensures (sym (drop_all 5 c.args.bytes.now (search rules))) c.read-refused.result c.read-refused.ensures
+    by_two_numbers c.args.bytes.now (λ i. (c.type_inv.bytes i).fits) 0 c.from_le_bytes-in-0.result c.from_le_bytes-in-0-2.result [] (search rules) (search rules)
+    c.from_le_bytes-in-0.ensures c.from_le_bytes-in-0-2.ensures (sym (drop_all 5 c.args.bytes.now (search rules))) c.read_refused.result c.read_refused.ensures
 
 pub returns-in-2 : goal.returns-in-2
 returns-in-2 c =
-    by_two_numbers c.args.bytes.now (λ i. (c.type-inv.bytes i).fits) 2 c.from-le-bytes-in-2.result c.from-le-bytes-in-2-2.result _ (search rules) (search rules)
-    c.from-le-bytes-in-2.ensures c.from-le-bytes-in-2-2.ensures (take_rest c.args.bytes.now 5) c.read-way.result c.read-way.ensures
+    by_two_numbers c.args.bytes.now (λ i. (c.type_inv.bytes i).fits) 2 c.from_le_bytes-in-2.result c.from_le_bytes-in-2-2.result _ (search rules) (search rules)
+    c.from_le_bytes-in-2.ensures c.from_le_bytes-in-2-2.ensures (take_rest c.args.bytes.now 5) c.read_way.result c.read_way.ensures

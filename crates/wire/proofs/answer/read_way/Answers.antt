@@ -7,4 +7,4 @@ returns-then-cells-from c = other_count c.args.side c.args.count c.args.cells.no
 
 pub returns : goal.returns
 returns c =
-    a_way c.in-Some.side c.args.side c.args.count c.args.cells (λ i. (c.type-inv.cells i).fits) c.in-Some.ensures (search rules) (search rules)
+    a_way c.in-Some.side c.args.side c.args.count c.args.cells (λ i. (c.type_inv.cells i).fits) c.in-Some.ensures (search rules) (search rules)

@@ -10,6 +10,6 @@ pub returns : goal.returns
 returns c =
     let t = c.in-Some.ensures in (
       t.0,
-      way_written c.args.side c.in-Some.count c.args.cells c.args.out.now c.write-way-head.new.out c.copy-from-slice.new.self (λ i. (c.type-inv.cells i).fits) t.0 t.1 c.if-out-size.false
-          c.write-way-head.result c.write-way-head.ensures.head c.copy-from-slice.ensures.after,
+      way_written c.args.side c.in-Some.count c.args.cells c.args.out.now c.write_way_head.new.out c.copy_from_slice.new.self (λ i. (c.type_inv.cells i).fits) t.0 t.1 c.if-out-size.false
+          c.write_way_head.result c.write_way_head.ensures.head c.copy_from_slice.ensures.after,
     )

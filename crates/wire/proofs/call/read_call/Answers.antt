@@ -4,24 +4,24 @@ use Rattle.wire.proofs.call.read_call.Goals as goal
 
 pub returns-in-0 : goal.returns-in-0
 returns-in-0 c =
-    let t = reads_first c.args.bytes.now (λ i. (c.type-inv.bytes i).fits) 0 (search rules) c.in-0.is c.read-move.ensures in
+    let t = reads_first c.args.bytes.now (λ i. (c.type_inv.bytes i).fits) 0 (search rules) c.in-0.is c.read_move.ensures in
     record { value = t.0; law = t.1 }
 
 pub returns-in-1 : goal.returns-in-1
 returns-in-1 c =
-    let t = reads_first c.args.bytes.now (λ i. (c.type-inv.bytes i).fits) 1 (search rules) c.in-1.is c.read_at_end.ensures in
+    let t = reads_first c.args.bytes.now (λ i. (c.type_inv.bytes i).fits) 1 (search rules) c.in-1.is c.read_end.ensures in
     record { value = t.0; law = t.1 }
 
 pub returns-in-2 : goal.returns-in-2
 returns-in-2 c =
-    let t = reads_first c.args.bytes.now (λ i. (c.type-inv.bytes i).fits) 2 (search rules) c.in-2.is c.read-end-in-2.ensures in
+    let t = reads_first c.args.bytes.now (λ i. (c.type_inv.bytes i).fits) 2 (search rules) c.in-2.is c.read_end-in-2.ensures in
     record { value = t.0; law = t.1 }
 
 pub returns-in-3 : goal.returns-in-3
 returns-in-3 c =
-    let t = reads_first c.args.bytes.now (λ i. (c.type-inv.bytes i).fits) 3 (search rules) c.in-3.is c.read-end-in-3.ensures in
+    let t = reads_first c.args.bytes.now (λ i. (c.type_inv.bytes i).fits) 3 (search rules) c.in-3.is c.read_end-in-3.ensures in
     record { value = t.0; law = t.1 }
 
-pub returns-in-default-number : goal.returns-in-default-number
-returns-in-default-number c =
+pub returns-in_default-number : goal.returns-in_default-number
+returns-in_default-number c =
     let t = reads_other c.args.bytes.now (search rules) (search rules) in record { value = t.0; law = t.1 }
