@@ -6,8 +6,8 @@ use Rattle.history.specs.Holds.{lent}
 use Rattle.history.proofs.Taking.{right_none_made, legal_now, groups_now, last_there, last_is, last_on, served_back}
 use Rattle.history.proofs.moves.take_back.Goals as goal
 
-pub returns-in-default : goal.returns-in-default
-returns-in-default c = record { right = right_none_made _ (lent _ _ _ _) c.requires (omega (arith, c.in-default.ensures)); unchanged = refl }
+pub returns-in_default : goal.returns-in_default
+returns-in_default c = record { right = right_none_made _ (lent _ _ _ _) c.requires (omega (arith, c.in_default.ensures)); unchanged = refl }
 
 pub unwrap-cell-requires : goal.unwrap-cell-requires
 unwrap-cell-requires c = last_there c.args.game (lent _ c.args.log.now _ _) c.requires c.in-Some.last (omega (arith, c.in-Some.ensures)) _ c.word.ensures
@@ -25,8 +25,8 @@ returns c =
     let last = c.in-Some.last in
     let ks = take last (words c.args.log.now) in
     let is = last_is c.args.game m c.requires last one _ _ c.word.ensures c.unwrap-cell.ensures in
-    served_back c.args.game m c.requires last one _ _ refl refl refl (ap (λ x. set c.args.stones.now x 0) is) c.set-word.ensures.after
-    (omega (arith, c.set-word.auto.bytes))
+    served_back c.args.game m c.requires last one _ _ refl refl refl (ap (λ x. set c.args.stones.now x 0) is) c.set_word.ensures.after
+    (omega (arith, c.set_word.auto.bytes))
     (c.lift.ensures.back ks
     (subst (λ x. Legal c.args.game.size.n (ks ++ (x ∷ []))) (sym is) (legal_now c.args.game m c.requires last one))
     (groups_now c.args.game m c.requires last one ∙ ap (λ x. forest_of c.args.game.size.n (ks ++ (x ∷ []))) (sym is)))
