@@ -6,8 +6,8 @@ use Rattle.endgame.proofs.floods.flood.Goals as goal
 pub loop-touched-init : goal.loop-touched-init
 loop-touched-init c = flooding_none c.args.near.now c.args.from c.args.stones
 
-pub overflow-sub-rest : goal.overflow-sub-rest
-overflow-sub-rest c =
+pub overflow_sub-rest : goal.overflow_sub-rest
+overflow_sub-rest c =
     let (on, left) = in_and c.lowest-k.result c.loop-touched.touched c.loop-touched.rest c.lowest-k.ensures.within in
     omega (arith, cell_le c.lowest-k.result c.loop-touched.rest left)
 

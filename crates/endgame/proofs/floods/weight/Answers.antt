@@ -5,12 +5,12 @@ use Rattle.endgame.specs.Floods.{common}
 use Rattle.endgame.proofs.Weighing.{few_cells, common_small}
 use Rattle.endgame.proofs.floods.weight.Goals as goal
 
-pub overflow-add-result : goal.overflow-add-result
-overflow-add-result c =
+pub overflow_add-result : goal.overflow_add-result
+overflow_add-result c =
     omega (arith, few_cells c.flood-reached.result c.args.free (omega arith), common_small (bit_or (bit_and c.flood-reached.result c.args.stones) c.one.result) c.args.links.now.first, c.meets.ensures)
 
-pub overflow-add-result-2 : goal.overflow-add-result-2
-overflow-add-result-2 c =
+pub overflow_add-result-2 : goal.overflow_add-result-2
+overflow_add-result-2 c =
     let group = bit_or (bit_and c.flood-reached.result c.args.stones) c.one.result in
     omega (arith, few_cells c.flood-reached.result c.args.free (omega arith), common_small group c.args.links.now.first, common_small group c.args.links.now.last, c.meets.ensures, c.meets-2.ensures)
 

@@ -10,7 +10,7 @@ use Rattle.endgame.proofs.Nodes.{node_after}
 use Rattle.endgame.proofs.Searching.{Searching, searching_none, searching_cut, searching_won, searching_lost, searching_all, told_at_once, told_known}
 use Rattle.endgame.proofs.Threats.{one_within}
 use Rattle.endgame.proofs.search.+solve.Goals as goal
-use Rattle.endgame.proofs.search.+solve.Goals.{After-after, After-solve-next, then_Found, else-found}
+use Rattle.endgame.proofs.search.+solve.Goals.{After-after, After-solve-next, then-found, else-found}
 
 pub returns-then-own-gt0 : goal.returns-then-own-gt0
 returns-then-own-gt0 t c =
@@ -132,7 +132,7 @@ loop-must-preserved t c =
 pub put-requires : goal.put-requires
 put-requires t c = record {
   inside = omega (arith, c.loop-must.auto.table, c.place-place.ensures, place_below c.args.ranking.now.cells c.args.at.mine c.args.at.theirs c.requires.node.position);
-  small = elim c.if-found.branch [ then_Found w ↦ omega (arith, w.put-is) | else-found w ↦ omega (arith, w.put-is) ];
+  small = elim c.if-found.branch [ then-found w ↦ omega (arith, w.put-is) | else-found w ↦ omega (arith, w.put-is) ];
 }
 
 pub returns : goal.returns
@@ -144,6 +144,6 @@ returns t c =
       stepped = end.stepped;
       named = λ _. end.named;
       tells = searching_all c.requires.node end c.if-found.put c.put.new.table (subst (λ i. Put c.loop-must.table c.put.new.table i c.if-found.put) c.place-place.ensures c.put.ensures)
-          (λ h. elim c.if-found.branch [ then_Found w ↦ w.put-is | else-found w ↦ absurd (both_ways c.loop-must.found.won w.if-found.false h) ])
-          (λ h. elim c.if-found.branch [ then_Found w ↦ absurd (both_ways c.loop-must.found.won h w.if-found.true) | else-found w ↦ w.put-is ]);
+          (λ h. elim c.if-found.branch [ then-found w ↦ w.put-is | else-found w ↦ absurd (both_ways c.loop-must.found.won w.if-found.false h) ])
+          (λ h. elim c.if-found.branch [ then-found w ↦ absurd (both_ways c.loop-must.found.won h w.if-found.true) | else-found w ↦ w.put-is ]);
     }

@@ -6,8 +6,8 @@ use Rattle.endgame.proofs.search.best.Goals as goal
 pub loop-rest-init : goal.loop-rest-init
 loop-rest-init c = record { chosen = c.lowest-best.ensures.within; inside = λ k h. h }
 
-pub overflow-sub-rest : goal.overflow-sub-rest
-overflow-sub-rest c = omega (arith, c.one-rest.ensures, cell_le c.lowest-k.result c.loop-rest.rest c.lowest-k.ensures.within)
+pub overflow_sub-rest : goal.overflow_sub-rest
+overflow_sub-rest c = omega (arith, c.one-rest.ensures, cell_le c.lowest-k.result c.loop-rest.rest c.lowest-k.ensures.within)
 
 pub weight-requires : goal.weight-requires
 weight-requires c = record {
