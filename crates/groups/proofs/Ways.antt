@@ -40,10 +40,10 @@ goes_along b s (step {i = i} {j = j} o n row) h =
     (j ∷ js, and_from _ _ (and_from (next_to b.wide i j) (is_stone b s j) n (stone_test b s j (first_own (next_to b.wide) row))) on)
 
 -- The first bit of a cell is its first border, the second its last.
-first_bit : (n s i : ℕ) → Decides (begins n s i) (Has 0 (touch n s i))
+pub first_bit : (n s i : ℕ) → Decides (begins n s i) (Has 0 (touch n s i))
 first_bit n s i = let (to, from) = touch_first n s i in (λ h. let m = to h in omega arith, λ h. from (omega arith))
 
-last_bit : (n s i : ℕ) → Decides (ends n s i) (Has 1 (touch n s i))
+pub last_bit : (n s i : ℕ) → Decides (ends n s i) (Has 1 (touch n s i))
 last_bit n s i =
     let (to, from) = touch_last n s i in
     let few = touch_few n s i in
