@@ -38,7 +38,7 @@ fn write_told(out: &mut String, res: Result<u16, Refusal>) -> fmt::Result
     ensures { OnOk result (string_bytes out.new ≡ string_bytes out.old ++ line_of (told res)) }
 {
     match res {
-        Ok(number) => write!(out, "{number}"),
+        Ok(number) => Ok(write!(out, "{number}")?),
         Err(why) => write_refusal(out, why),
     }
 }
@@ -47,14 +47,16 @@ fn write_told(out: &mut String, res: Result<u16, Refusal>) -> fmt::Result
 fn write_unreadable(out: &mut String, place: usize) -> fmt::Result
     ensures { OnOk result (string_bytes out.new ≡ string_bytes out.old ++ (codes "refused 1 at " ++ decimal place)) }
 {
-    write!(out, "refused 1 at {place}")
+    write!(out, "refused 1 at {place}")?;
+    Ok(())
 }
 
 // Adds what opening a board is answered by.
 fn write_opened(out: &mut String, n: u16) -> fmt::Result
     ensures { OnOk result (string_bytes out.new ≡ string_bytes out.old ++ (codes "board " ++ decimal n)) }
 {
-    write!(out, "board {n}")
+    write!(out, "board {n}")?;
+    Ok(())
 }
 
 // A board no larger than the program serves, or none where n is out of range.
