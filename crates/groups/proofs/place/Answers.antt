@@ -10,7 +10,7 @@ pub loop-k-init : goal.loop-k-init
 loop-k-init c = adopt_none _ _ _ _ _
 
 pub loop-k-preserved : goal.loop-k-preserved
-loop-k-preserved c = adopt_more (laid c.args.size.n c.args.cells.now) (number c.args.side) c.args.cell (neighbour_of c.args.size.n c.args.cell) c.loop-k.k _ _ _ c.loop-k.invariant c.«take_in».ensures
+loop-k-preserved c = adopt_more (laid c.args.size.n c.args.cells.now) (number c.args.side) c.args.cell (neighbour_of c.args.size.n c.args.cell) c.loop-k.k _ _ _ c.loop-k.invariant c.take_in.ensures
 
 pub returns : goal.returns
 returns c = record { value = value; grows = memory_grows c.args.size.n c.args.cells.now (number c.args.side) c.args.cell c.args.parents.now c.args.borders.now c.loop-k.parents c.loop-k.borders value }

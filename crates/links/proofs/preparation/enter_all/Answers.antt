@@ -11,7 +11,7 @@ loop-direction-init c = over_none _ _ _
 
 pub loop-direction-preserved : goal.loop-direction-preserved
 loop-direction-preserved c =
-    over_more (entered_at (laid c.args.size.n c.args.stones.now) (number c.args.side) (words c.args.parents.now) c.args.k) (neighbour_of c.args.size.n c.args.cell) c.loop-direction.direction _ _ _ c.loop-direction.invariant c.«enter-at».ensures
+    over_more (entered_at (laid c.args.size.n c.args.stones.now) (number c.args.side) (words c.args.parents.now) c.args.k) (neighbour_of c.args.size.n c.args.cell) c.loop-direction.direction _ _ _ c.loop-direction.invariant c.enter_at.ensures
 
 pub returns : goal.returns
 returns c =

@@ -12,7 +12,7 @@ loop-k-init c = (refl, gathered_none _ _ _ _)
 
 pub loop-k-preserved : goal.loop-k-preserved
 loop-k-preserved c =
-    (omega arith, gathered_more _ _ _ c.args.cells.now.cells c.args.cells.now.count c.loop-k.k _ _ c.loop-k-test.true c.loop-k.invariant.1 c.«enter-all».ensures)
+    (omega arith, gathered_more _ _ _ c.args.cells.now.cells c.args.cells.now.count c.loop-k.k _ _ c.loop-k-test.true c.loop-k.invariant.1 c.enter_all.ensures)
 
 pub returns : goal.returns
 returns c =

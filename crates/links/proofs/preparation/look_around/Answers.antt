@@ -13,8 +13,8 @@ pub loop-direction-preserved : goal.loop-direction-preserved
 loop-direction-preserved c =
     let look : List ℕ → Option ℕ → ℕ → ℕ = λ list. joined_at (laid c.args.size.n c.args.stones.now) (number c.args.side) (words c.args.parents.now) (by_root list) in
     let next = neighbour_of c.args.size.n c.args.cell in (
-      over_more (look c.args.sets.now) next c.loop-direction.direction _ _ _ c.loop-direction.invariant.0 c.«join-at-all».ensures.near,
-      over_more (look c.args.borders.now) next c.loop-direction.direction _ _ _ c.loop-direction.invariant.1 c.«join-at-all».ensures.borders,
+      over_more (look c.args.sets.now) next c.loop-direction.direction _ _ _ c.loop-direction.invariant.0 c.join_at-all.ensures.near,
+      over_more (look c.args.borders.now) next c.loop-direction.direction _ _ _ c.loop-direction.invariant.1 c.join_at-all.ensures.borders,
     )
 
 pub returns : goal.returns

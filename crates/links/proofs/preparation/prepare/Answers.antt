@@ -18,13 +18,13 @@ loop-k-preserved c =
     let ps = words c.args.parents.now in
     let cell = sym (get_or-take c.args.cells.now.count c.args.cells.now.cells c.loop-k.k 0 c.loop-k-test.true) in
     preparing_more
-    {N = λ k. near_at b w ps c.«gather-sets».result (get_or (listed c.args.cells.now) k 0)}
+    {N = λ k. near_at b w ps c.gather-sets.result (get_or (listed c.args.cells.now) k 0)}
     {T = λ k. borders_at b w ps c.args.borders.now (get_or (listed c.args.cells.now) k 0)}
-    c.loop-k.invariant c.«look-around-it».result.near c.«look-around-it».result.borders _ _ (omega arith)
-    (c.«look-around-it».ensures.near ∙ ap (near_at b w ps c.«gather-sets».result) cell)
-    (c.«look-around-it».ensures.borders ∙ ap (borders_at b w ps c.args.borders.now) cell)
-    c.«add-if-first».ensures
-    c.«add-if-last».ensures
+    c.loop-k.invariant c.look_around-it.result.near c.look_around-it.result.borders _ _ (omega arith)
+    (c.look_around-it.ensures.near ∙ ap (near_at b w ps c.gather-sets.result) cell)
+    (c.look_around-it.ensures.borders ∙ ap (borders_at b w ps c.args.borders.now) cell)
+    c.add_if-first.ensures
+    c.add_if-last.ensures
 
 pub returns : goal.returns
 returns c =
@@ -36,4 +36,4 @@ returns c =
     let many : length es ≡ c.args.cells.now.count = length-take-le c.args.cells.now.count c.args.cells.now.cells (omega arith) in
     let all : c.loop-k.k ≡ length es = omega arith in
     prepared n w c.args.size.some c.args.size.few (side_number c.args.side) c.args.stones.now c.args.parents.now c.args.borders.now es _
-    (subst₂ (λ m sets. Preparing (λ k. near_at b w ps sets (get_or es k 0)) (λ k. borders_at b w ps c.args.borders.now (get_or es k 0)) m c.loop-k.near c.loop-k.first c.loop-k.last) all (c.«gather-sets».ensures ∙ ap (gathered b w ps es) (sym many)) c.loop-k.invariant)
+    (subst₂ (λ m sets. Preparing (λ k. near_at b w ps sets (get_or es k 0)) (λ k. borders_at b w ps c.args.borders.now (get_or es k 0)) m c.loop-k.near c.loop-k.first c.loop-k.last) all (c.gather-sets.ensures ∙ ap (gathered b w ps es) (sym many)) c.loop-k.invariant)

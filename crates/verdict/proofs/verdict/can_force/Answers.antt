@@ -15,22 +15,22 @@ use Rattle.verdict.proofs.verdict.can_force.Goals as goal
 use Rattle.verdict.proofs.verdict.can_force.Goals.{After-div-ceil-bytes, After-look-through-found}
 
 -- the part of the table that the positions take is there, and takes them
-fits : (c : After-div-ceil-bytes) → c.«div-ceil-bytes».result ≤ length c.args.table.now
+fits : (c : After-div-ceil-bytes) → c.div_ceil-bytes.result ≤ length c.args.table.now
 fits c =
     let e = c.new-ranking.result.cells in
     let room = enough c.args.size.n e c.new-ranking.result.few (omega (arith, c.in-Some.ensures.many, empties_few c.args.stones.now, c.new-ranking.ensures)) in
-    omega (arith, room, c.places.ensures.value, c.«div-ceil-bytes».ensures, c.requires.room)
+    omega (arith, room, c.places.ensures.value, c.div_ceil-bytes.ensures, c.requires.room)
 
 pub slice-bounds-look-through-end : goal.slice-bounds-look-through-end
 slice-bounds-look-through-end c = fits (goal.at.slice-bounds-look-through-end c).After-div-ceil-bytes
 
 pub slice-bounds-look-through-end-2 : goal.slice-bounds-look-through-end-2
-slice-bounds-look-through-end-2 c = sym (length-take-le c.«div-ceil-bytes».result c.args.table.now (fits (goal.at.slice-bounds-look-through-end-2 c).After-div-ceil-bytes))
+slice-bounds-look-through-end-2 c = sym (length-take-le c.div_ceil-bytes.result c.args.table.now (fits (goal.at.slice-bounds-look-through-end-2 c).After-div-ceil-bytes))
 
 pub look-through-found-requires : goal.look-through-found-requires
 look-through-found-requires c =
-    let part = length-take-le c.«div-ceil-bytes».result c.args.table.now (fits (goal.at.look-through-found-requires c).After-div-ceil-bytes) in
-    omega (arith, part, c.places.ensures.value, c.«div-ceil-bytes».ensures)
+    let part = length-take-le c.div_ceil-bytes.result c.args.table.now (fits (goal.at.look-through-found-requires c).After-div-ceil-bytes) in
+    omega (arith, part, c.places.ensures.value, c.div_ceil-bytes.ensures)
 
 -- What the links and the search tell, said of the other side and of the cells that are counted.
 module _ (c : After-look-through-found) where
