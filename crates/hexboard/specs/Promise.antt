@@ -1,7 +1,7 @@
 -- What is promised, each promise a statement: of the desk, that all its answers are right; of boards of every size, six theorems.
-use Rattle.std.specs.Prelude.{◌≡◌, ℕ, zero, suc, ◌+◌, ◌-◌, ◌*◌, ◌/◌, ◌%◌, ◌<◌, ◌≤◌, Bool, true, false, not, ◌&&◌, ◌||◌, ◌≢◌, ◌⊎◌, List, [], ◌∷◌, ◌++◌, length, ◌==◌, nat_lt}
-use Rattle.hexboard.specs.Board.{pick, Board, at, next_to, begins, ends, is_way, Connects, empty, empties, put, other}
-use Rattle.hexboard.specs.Games.{Forces, Game, new_game, Call, moves, back, who, can_force, Answer, too_many, Won, Right}
+use Rattle.std.specs.Prelude.{◌≡◌, ℕ, ◌+◌, ◌*◌, ◌/◌, ◌%◌, ◌<◌, ◌≤◌, Bool, true, ◌&&◌, ◌≢◌, ◌⊎◌, List, [], ◌∷◌, length, ◌==◌, nat_lt}
+use Rattle.hexboard.specs.Board.{pick, Board, at, Connects, empty, empties, put, other}
+use Rattle.hexboard.specs.Games.{Forces, Game, new_game, Call, can_force, Answer, too_many, Right}
 
 -- THE MAIN PROMISE. A desk is taken for what the contracts of opening and calling say of the lent memory and of the answer.
 -- For every list of calls, each answer is right for the game that the calls before it left. Whether the side to move can force

@@ -1,5 +1,5 @@
 -- The sides of the code, by the numbers that a board's cells hold.
-use Rattle.std.specs.Prelude.{ℕ, zero, suc, Bool, true, false, Some, None, Option, ◌==◌}
+use Rattle.std.specs.Prelude.{ℕ, Some, None, Option, ◌==◌}
 use Rattle.hexboard.specs.Board.{pick}
 use Rattle.hexboard.specs.declared.side.Side.{Side}
 use Rattle.hexboard.specs.declared.side.Side.TheVariants.{One, Two}
