@@ -1,10 +1,10 @@
 -- Each move fills a cell: how many moves there are, how many cells are empty, and whose turn it is.
-use Rattle.std.proofs.Common.{◌≡◌, ℕ, zero, suc, ◌+◌, ◌-◌, ◌*◌, ◌%◌, ◌<◌, ◌≤◌, Bool, true, false, ◌&&◌, eqb, ltb, ◌⊎◌, List, [], ◌∷◌, ◌++◌, length, get_or, set, sym, refl, ap, ◌∙◌, subst, inl, inr, ⊎_elim, arith}
+use Rattle.std.proofs.Common.{◌≡◌, ℕ, zero, suc, ◌+◌, ◌*◌, ◌%◌, ◌<◌, true, eqb, ◌⊎◌, List, [], ◌∷◌, length, sym, refl, ◌∙◌, inl, arith}
 use Rattle.std.proofs.lemmas.Bool.Decides.{nat_tests}
-use Rattle.hexboard.specs.Board.{pick, Board, at, all_cells, empties, put, other}
+use Rattle.hexboard.specs.Board.{pick, all_cells, empties, other}
 use Rattle.hexboard.specs.Geometry.{laid}
 use Rattle.theorems.proofs.Stones.{one_fewer, empty_counts}
-use Rattle.groups.specs.Moves.{Position, start, moved, is_free, is_fair, played, position_of, board_of, turn_of, Legal}
+use Rattle.groups.specs.Moves.{Position, start, moved, is_free, is_fair, played, board_of, turn_of, Legal}
 use Rattle.groups.proofs.Positions.{Sound, free_parts, moved_sound, other_side, start_sound}
 
 -- so many empty cells are empty

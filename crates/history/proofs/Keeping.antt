@@ -1,6 +1,6 @@
 -- What memory holds after one move more, and after one move back.
-use Rattle.std.proofs.Common.{◌≡◌, ℕ, zero, suc, ◌+◌, ◌-◌, ◌*◌, ◌<◌, ◌≤◌, true, List, [], ◌∷◌, ◌++◌, length, get_or, take, set, sym, refl, ap, ◌∙◌, subst, ⊎_elim, arith}
-use Rattle.std.proofs.lemmas.List.{append_assoc, length-append, length_push, set_at, set-get_or, set-set, take-append-le, take_at}
+use Rattle.std.proofs.Common.{◌≡◌, ℕ, zero, suc, ◌-◌, ◌*◌, ◌<◌, true, List, [], ◌∷◌, ◌++◌, length, set, sym, refl, ap, ◌∙◌, subst, ⊎_elim, arith}
+use Rattle.std.proofs.lemmas.List.{append_assoc, length_push, set_at, set-get_or, set-set, take-append-le, take_at}
 use Rattle.std.proofs.str.Laws.{order}
 use Rattle.hexboard.specs.Board.{all_cells}
 use Rattle.hexboard.specs.Words.{words}

@@ -1,6 +1,6 @@
 -- Each answer to a move and to a take-back is the right one by the rules.
-use Rattle.std.proofs.Common.{◌≡◌, ℕ, ◌+◌, ◌-◌, ◌*◌, ◌/◌, ◌%◌, ◌<◌, ◌≤◌, true, eqb, ltb, ◌≢◌, ◌⊎◌, List, [], ◌∷◌, ◌++◌, length, get_or, take, set, sym, refl, ap, ◌∙◌, subst, inl, inr, ⊎_elim, arith}
-use Rattle.std.proofs.lemmas.List.{length_push, take_at, take_more_set}
+use Rattle.std.proofs.Common.{◌≡◌, ℕ, ◌+◌, ◌*◌, ◌%◌, ◌<◌, ◌≤◌, true, eqb, ◌≢◌, ◌⊎◌, List, [], ◌∷◌, ◌++◌, length, get_or, take, set, sym, ap, ◌∙◌, subst, ⊎_elim, arith}
+use Rattle.std.proofs.lemmas.List.{length_push, take_more_set}
 use Rattle.std.proofs.lemmas.Bool.Decides.{nat_tests}
 use Rattle.hexboard.specs.Board.{pick, at, is_way, Connects}
 use Rattle.hexboard.specs.Geometry.{laid}
@@ -11,14 +11,14 @@ use Rattle.hexboard.specs.declared.side.Side.{Side}
 use Rattle.hexboard.specs.declared.side.Side.TheVariants.{One, Two}
 use Rattle.hexboard.proofs.TwoBytes.{words_length}
 use Rattle.groups.specs.Forest.{held}
-use Rattle.groups.specs.Moves.{is_free, board_of, turn_of, forest_of, Legal}
+use Rattle.groups.specs.Moves.{is_free, board_of, turn_of, forest_of}
 use Rattle.groups.specs.Meaning.{Open}
 use Rattle.history.specs.Played.{game_of, Played, winner_of, Kept}
-use Rattle.history.specs.Holds.{won_by, Memory, moves_in, formal, Holds, Served, TurnedAway}
+use Rattle.history.specs.Holds.{won_by, Memory, moves_in, formal, Holds, Served}
 use Rattle.history.specs.declared.game.Game.{Game}
 use Rattle.history.proofs.Filling.{room, turn_by_count, board_laid}
-use Rattle.history.proofs.Keeping.{played_more, played_less, kept_more, kept_less}
-use Rattle.history.proofs.Turns.{game_push, game_back, winner_open, winner_won, winner_push}
+use Rattle.history.proofs.Keeping.{played_more, kept_more}
+use Rattle.history.proofs.Turns.{game_push, winner_open, winner_won, winner_push}
 
 -- a side is not nobody
 pub some_side : (side : Side) → number side ≢ 0

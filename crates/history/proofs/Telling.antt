@@ -8,9 +8,8 @@ use Rattle.hexboard.proofs.TwoBytes.{same_bytes}
 use Rattle.groups.proofs.Positions.{legal_push}
 use Rattle.groups.proofs.Theorems.{kept_once}
 use Rattle.history.specs.Played.{Kept}
-use Rattle.history.specs.Holds.{Memory, lent, moves_in, formal, Holds, Served}
+use Rattle.history.specs.Holds.{Memory, lent, moves_in, formal}
 use Rattle.history.specs.Laws.{InBytes, MovesTell, BackToTheByte}
-use Rattle.history.specs.declared.game.Game.{Game}
 use Rattle.history.proofs.Filling.{board_wide}
 use Rattle.history.proofs.Turns.{game_push, game_back}
 

@@ -1,12 +1,12 @@
 -- One move more, and one move back: what becomes of the game, its board and who has won.
-use Rattle.std.proofs.Common.{◌≡◌, ℕ, zero, suc, ◌+◌, ◌-◌, ◌*◌, ◌%◌, ◌<◌, ◌≤◌, Bool, true, false, ◌&&◌, eqb, ltb, ◌≢◌, ◌⊎◌, List, [], ◌∷◌, ◌++◌, length, get_or, take, set, sym, refl, ap, ◌∙◌, subst, inl, inr, ⊎_elim, arith}
-use Rattle.std.proofs.lemmas.List.{length_push, take-append-le, take_at, set-set, set-get_or}
+use Rattle.std.proofs.Common.{◌≡◌, ℕ, ◌*◌, ◌%◌, ◌<◌, true, false, eqb, ◌≢◌, ◌⊎◌, List, [], ◌∷◌, ◌++◌, length, get_or, set, sym, refl, ap, ◌∙◌, subst, inl, inr, ⊎_elim, arith}
+use Rattle.std.proofs.lemmas.List.{length_push, take_at, set-set, set-get_or}
 use Rattle.std.proofs.lemmas.Bool.Decides.{nat_tests}
 use Rattle.hexboard.specs.Board.{pick, Board, at, is_way, Connects, empty, put, other}
 use Rattle.hexboard.specs.Games as games
 use Rattle.groups.specs.Moves.{Position, start, moved, is_free, played, position_of, board_of, turn_of, forest_of, Legal}
 use Rattle.groups.specs.Meaning.{JustIf, Both, Open}
-use Rattle.groups.proofs.Positions.{played_push, legal_push, legal_last, legal_sound, free_parts, empty_at}
+use Rattle.groups.proofs.Positions.{played_push, legal_last, legal_sound, free_parts, empty_at}
 use Rattle.groups.proofs.Theorems.{one_byte_decides}
 use Rattle.history.specs.Played.{game_of, Played, winner_of}
 

@@ -1,5 +1,5 @@
 -- Games as they are played: a list of moves, each to an empty cell, none after somebody has won; and what memory holds of them.
-use Rattle.std.specs.Prelude.{◌≡◌, ℕ, ◌+◌, ◌-◌, ◌*◌, ◌%◌, ◌<◌, ◌≤◌, List, [], ◌∷◌, ◌++◌, length, take, ◌==◌, slice_index}
+use Rattle.std.specs.Prelude.{◌≡◌, ℕ, ◌-◌, ◌*◌, ◌%◌, ◌<◌, List, ◌++◌, length, take, ◌==◌, slice_index}
 use Rattle.hexboard.specs.Board.{pick, all_cells, other}
 use Rattle.hexboard.specs.Games as games
 use Rattle.hexboard.specs.Words.{words}

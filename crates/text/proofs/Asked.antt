@@ -1,9 +1,9 @@
 -- The forms of the lines that can be read, put together from words and numbers.
-use Rattle.std.proofs.Common.{◌≡◌, ℕ, ◌+◌, ◌-◌, ◌<◌, max, ◌⊎◌, List, [], ◌∷◌, ◌++◌, length, take, drop, codes, sym, refl, subst, inl, inr, ⊎_elim, arith}
+use Rattle.std.proofs.Common.{◌≡◌, ℕ, ◌+◌, ◌-◌, ◌<◌, max, ◌⊎◌, List, [], ◌∷◌, length, take, drop, codes, subst, inl, inr}
 use Rattle.std.proofs.lemmas.List.{take_rest}
 use Rattle.wire.specs.declared.call.Call.TheVariants.{Move, Back, Who, CanForce}
 use Rattle.text.specs.declared.reading.Line.TheVariants as line
-use Rattle.text.specs.Lines.{Decimal, SomeDecimal, Numbered, SomeNumbered, Says, SomeWord, Asks, Readable}
+use Rattle.text.specs.Lines.{Decimal, SomeDecimal, Numbered, SomeNumbered, SomeWord, Asks, Readable}
 use Rattle.text.specs.Places.{Agree, Stops}
 use Rattle.text.proofs.Numbers.{zero_decimal}
 use Rattle.text.proofs.Words.{After, early_stops, late_stops, found_behind, either_stops, stops_as}

@@ -1,7 +1,7 @@
-use Rattle.std.proofs.Common.{ℕ, ◌%◌, eqb, List, get_or, set, sym, refl, ap, ◌∙◌, inl, arith}
+use Rattle.std.proofs.Common.{◌%◌, eqb, get_or, set, sym, refl, ap, ◌∙◌, inl, arith}
 use Rattle.hexboard.specs.Board.{pick}
 use Rattle.history.specs.Holds.{lent, won_by}
-use Rattle.history.proofs.Serving.{some_side, right_no_cell, right_over, right_taken, nobody, mover, room_in, served_made}
+use Rattle.history.proofs.Serving.{some_side, right_no_cell, right_over, right_taken, mover, room_in, served_made}
 use Rattle.history.proofs.moves.make_move.Goals as goal
 
 pub returns-in_default : goal.returns-in_default

@@ -1,8 +1,7 @@
-use Rattle.std.proofs.Common.{◌*◌, sym, refl, ap, ◌∙◌, subst, arith}
+use Rattle.std.proofs.Common.{ap, ◌∙◌, arith}
 use Rattle.hexboard.specs.Board.{all_cells}
-use Rattle.hexboard.specs.Games as games
 use Rattle.hexboard.proofs.Boards.{all_cells_replicate}
-use Rattle.history.specs.Holds.{lent, formal}
+use Rattle.history.specs.Holds.{lent}
 use Rattle.history.proofs.Taking.{new_held}
 use Rattle.history.proofs.moves.start.Goals as goal
 

@@ -1,6 +1,5 @@
-use Rattle.std.proofs.Common.{◌≡◌, ℕ, ◌+◌, ◌<◌, List, [], ◌∷◌, ◌++◌, length, get_or, take, set, sym, refl, ap, ◌∙◌, subst, arith}
+use Rattle.std.proofs.Common.{◌≡◌, ◌+◌, [], ◌∷◌, ◌++◌, take, set, sym, refl, ap, ◌∙◌, subst, arith}
 use Rattle.hexboard.specs.Words.{words}
-use Rattle.groups.specs.Forest.{held}
 use Rattle.groups.specs.Moves.{forest_of, Legal}
 use Rattle.history.specs.Holds.{lent}
 use Rattle.history.proofs.Taking.{right_none_made, legal_now, groups_now, last_there, last_is, last_on, served_back}
