@@ -1,5 +1,5 @@
 -- The flood: what its loop keeps, and what it gives at the end.
-use Rattle.std.proofs.Common.{◌≡◌, ℕ, ◌-◌, ◌^◌, ◌⊎◌, List, get_or, sym, ap, ◌∙◌, ⊎_elim, arith}
+use Rattle.std.proofs.Common.{◌≡◌, ℕ, ◌-◌, ◌^◌, List, get_or, sym, ap, ◌∙◌, ⊎_elim, arith}
 use lib.Bits.{bit_and, bit_or}
 use Rattle.ranking.specs.Sets.{bit, Within}
 use Rattle.ranking.proofs.Bits.{bit_less, bit_none, in_or_out, in_and, and_in, in_or, or_left, or_right}

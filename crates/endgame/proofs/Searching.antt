@@ -1,5 +1,5 @@
 -- The search: a move that connects at once, what is tried so far, one more try, and what is found at the end.
-use Rattle.std.proofs.Common.{◌≡◌, ℕ, ◌+◌, ◌-◌, ◌^◌, ◌<◌, true, false, eqb, ◌⊎◌, List, sym, refl, ap, ◌∙◌, subst, ⊎_elim, arith, pow_pos}
+use Rattle.std.proofs.Common.{◌≡◌, ℕ, ◌+◌, ◌-◌, ◌^◌, ◌<◌, true, false, eqb, List, sym, refl, ap, ◌∙◌, subst, ⊎_elim, arith, pow_pos}
 use lib.Bits.{bit_and, bit_or}
 use Rattle.std.proofs.lemmas.Bool.{both_ways, cases_eq, cases_Bool, eqb-true, eqb-false}
 use Rattle.hexboard.specs.Board.{Board, other}

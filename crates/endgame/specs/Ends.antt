@@ -1,5 +1,5 @@
 -- Ends of games: the empty cells of a board laid with stones, and what is said of wins there. Definitions only.
-use Rattle.std.specs.Prelude.{◌≡◌, ℕ, zero, suc, ◌+◌, ◌-◌, ◌^◌, ◌<◌, Bool, true, false, cond, ◌⊎◌, List, [], ◌∷◌, length, ◌==◌, count_ones, slice_index}
+use Rattle.std.specs.Prelude.{◌≡◌, ℕ, suc, ◌+◌, ◌-◌, ◌^◌, ◌<◌, true, false, cond, ◌⊎◌, List, [], ◌∷◌, length, ◌==◌, count_ones, slice_index}
 use Rattle.hexboard.specs.Board.{Board, at, Connects, put, other}
 use Rattle.hexboard.specs.Games.{Forces}
 use Rattle.hexboard.specs.Promise.{Good}

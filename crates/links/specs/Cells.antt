@@ -1,6 +1,6 @@
 -- The empty cells of a board, listed. Definitions only.
-use Rattle.std.specs.Prelude.{◌≡◌, ℕ, suc, ◌<◌, List, [], ◌∷◌, length, take, ◌==◌}
-use Rattle.hexboard.specs.Board.{pick, Board, at, empties}
+use Rattle.std.specs.Prelude.{◌≡◌, ℕ, suc, List, [], ◌∷◌, take, ◌==◌}
+use Rattle.hexboard.specs.Board.{pick, empties}
 use Rattle.links.specs.declared.empty_cells.EmptyCells.{EmptyCells}
 
 -- the places of the zeros in a list, counted from i

@@ -1,5 +1,5 @@
 -- What a side's stones bring together, cell by cell and neighbour by neighbour, as code can follow it. Definitions only.
-use Rattle.std.specs.Prelude.{ℕ, zero, suc, ◌^◌, List, set, replicate, Some, None, Option, ◌==◌, bit_or, slice_index, slice_set}
+use Rattle.std.specs.Prelude.{ℕ, zero, suc, ◌^◌, List, replicate, Some, None, Option, ◌==◌, bit_or, slice_index, slice_set}
 use Rattle.hexboard.specs.Board.{pick, Board, at, other}
 use Rattle.hexboard.specs.Geometry.{neighbour_of, touch}
 use Rattle.groups.specs.Forest.{root}

@@ -1,9 +1,9 @@
 -- Laws of sets as bits: what the bits of a union, an intersection, one cell more and one cell fewer are.
-use Rattle.std.proofs.Common.{◌≡◌, ℕ, zero, suc, ◌+◌, ◌-◌, ◌*◌, ◌/◌, ◌%◌, ◌^◌, ◌<◌, ◌≤◌, min, max, cond, eqb, ◌⊎◌, sym, refl, ap, ◌∙◌, inl, inr, ⊎_elim, pow-suc, arith}
+use Rattle.std.proofs.Common.{◌≡◌, ℕ, zero, suc, ◌+◌, ◌-◌, ◌/◌, ◌%◌, ◌^◌, ◌<◌, ◌≤◌, min, max, ◌⊎◌, refl, ap, ◌∙◌, inl, inr, ⊎_elim, pow-suc, arith}
 use lib.Bits.{bit_and, bit_or, and_step, or_step, and_le_l}
 use lib.Count.{ones, ones_step, count_trailing_zeros, under}
 use Rattle.std.proofs.lemmas.Bool.{cases_eq}
-use Rattle.ranking.specs.Sets.{bit, Within, Apart, One}
+use Rattle.ranking.specs.Sets.{bit, Within}
 
 -- a bit is 0 or 1
 pub bit_below : (k x : ℕ) → bit k x < 2

@@ -1,5 +1,5 @@
 -- How many ways there are to lay stones: the law of the first cell, and bounds.
-use Rattle.std.proofs.Common.{◌≡◌, ℕ, zero, suc, ◌+◌, ◌-◌, ◌*◌, ◌/◌, ◌%◌, ◌^◌, ◌<◌, ◌≤◌, List, get_or, sym, refl, ap, ◌∙◌, ap₂, le_trans, add-mul, mul-le-mul, pow-suc, mul-add, arith, pow_mono}
+use Rattle.std.proofs.Common.{◌≡◌, ℕ, zero, suc, ◌+◌, ◌-◌, ◌*◌, ◌/◌, ◌%◌, ◌^◌, ◌<◌, ◌≤◌, List, get_or, refl, ap, ◌∙◌, le_trans, add-mul, mul-le-mul, pow-suc, mul-add, arith, pow_mono}
 use Rattle.ranking.specs.Positions.{choose, count, start}
 use Rattle.ranking.specs.Triangle.{Rows}
 

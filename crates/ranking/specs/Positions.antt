@@ -1,6 +1,6 @@
 -- The place of a position among all that can arise in an end of a game, with none left out and none shared. Definitions only.
-use Rattle.std.specs.Prelude.{◌≡◌, ℕ, zero, suc, ◌+◌, ◌-◌, ◌*◌, ◌/◌, ◌%◌, ◌^◌, ◌<◌, ◌≤◌, cond, ◌⊎◌, ◌==◌, count_ones}
-use Rattle.ranking.specs.Sets.{bit, Apart}
+use Rattle.std.specs.Prelude.{◌≡◌, ℕ, zero, suc, ◌+◌, ◌-◌, ◌*◌, ◌/◌, ◌%◌, ◌^◌, ◌<◌, cond, ◌⊎◌, ◌==◌, count_ones}
+use Rattle.ranking.specs.Sets.{Apart}
 
 -- A position of an end with e cells is two sets, the stones of the side to move and those of the other, laid since the end began.
 -- The sides take turns, so the side to move has as many as the other or one fewer.

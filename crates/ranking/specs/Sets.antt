@@ -1,5 +1,5 @@
 -- Sets of cells as the bits of a number: cell k is in the set x if bit k of x is 1. Definitions only.
-use Rattle.std.specs.Prelude.{◌≡◌, ℕ, zero, suc, ◌+◌, ◌/◌, ◌%◌, ◌^◌, ◌<◌, ◌≤◌}
+use Rattle.std.specs.Prelude.{◌≡◌, ℕ, zero, suc, ◌+◌, ◌/◌, ◌%◌, ◌^◌, ◌≤◌}
 
 -- 1 if cell k is in the set, else 0. The lowest cell is the head of the word, and the others are the set halved
 unfoldable pub bit : ℕ → ℕ → ℕ

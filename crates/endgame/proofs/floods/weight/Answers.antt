@@ -1,7 +1,5 @@
-use Rattle.std.proofs.Common.{◌≡◌, ℕ, ◌+◌, ◌*◌, ◌^◌, ◌≤◌, get_or, sym, refl, ap, ◌∙◌, arith}
+use Rattle.std.proofs.Common.{refl, arith}
 use lib.Bits.{bit_and, bit_or}
-use lib.Count.{ones}
-use Rattle.endgame.specs.Floods.{common}
 use Rattle.endgame.proofs.Weighing.{few_cells, common_small}
 use Rattle.endgame.proofs.floods.weight.Goals as goal
 
