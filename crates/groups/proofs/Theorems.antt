@@ -1,12 +1,11 @@
 -- What groups mean, proved for every legal list of moves.
-use Rattle.std.proofs.Common.{◌≡◌, ℕ, ◌*◌, ◌%◌, Bool, true, eqb, ◌≢◌, ◌⊎◌, List, [], ◌∷◌, ◌++◌, length, get_or, Decides, sym, refl, ap, ◌∙◌, subst, inl, inr, ⊎_elim, arith}
+use Rattle.std.proofs.Common.{◌≡◌, ℕ, ◌*◌, ◌%◌, Bool, true, eqb, ◌≢◌, ◌⊎◌, List, [], ◌∷◌, ◌++◌, length, get_or, sym, refl, ap, ◌∙◌, subst, inl, inr, ⊎_elim, arith}
 use Rattle.std.proofs.lemmas.Bool.Decides.{Decides-like, Decides-at, Decides-eqb}
 use Rattle.hexboard.specs.Board.{other, Connects}
 use Rattle.hexboard.specs.Geometry.{laid}
-use Rattle.hexboard.specs.Rows.{Stone, Row}
 use Rattle.hexboard.proofs.Neighbours.{next_symmetric}
 use Rattle.groups.specs.Forest.{Forest, held, root, place, lift}
-use Rattle.groups.specs.Moves.{Position, start, moved, is_free, position_of, board_of, turn_of, forest_of, Legal, Kept, HeldAround}
+use Rattle.groups.specs.Moves.{Position, start, moved, is_free, position_of, board_of, turn_of, forest_of, Legal, HeldAround}
 use Rattle.groups.specs.Meaning.{JustIf, Both, Together, Joined, Open, OneByteDecides, BackAgain, KeptOnce}
 use Rattle.groups.specs.Meaning.{OneMore, OneFewer, TellsRows, TellsWinner}
 use Rattle.groups.proofs.Bytes.{same_bytes}

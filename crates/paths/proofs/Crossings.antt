@@ -1,8 +1,8 @@
 -- What a search says of every way: where it has looked round all places up to a depth, a way that is no longer has met the first border.
-use Rattle.std.proofs.Common.{◌≡◌, ℕ, ◌+◌, ◌<◌, ◌≤◌, Bool, true, false, ◌&&◌, ◌⊎◌, List, [], ◌∷◌, length, get_or, sym, refl, ap, ◌∙◌, subst, inl, inr, ⊎_elim, arith}
+use Rattle.std.proofs.Common.{◌≡◌, ℕ, ◌+◌, ◌<◌, ◌≤◌, true, ◌&&◌, List, [], ◌∷◌, length, get_or, ap, subst, ⊎_elim, arith}
 use Rattle.std.proofs.lemmas.Bool.{and_parts, cases_lt, false≢true}
 use Rattle.paths.specs.Ways.{Ground, leads, crosses}
-use Rattle.paths.specs.Search.{Reached, Tree, Unmet, Spread, Front, Ahead}
+use Rattle.paths.specs.Search.{Reached, Spread, Front, Ahead}
 
 -- Nearness goes both ways.
 abbrev pub Mutual : Ground → Type 0

@@ -1,13 +1,12 @@
 -- The ground of a side on a board: its own places are its stones, nearness goes both ways, and what crosses it is a way.
-use Rattle.std.proofs.Common.{◌≡◌, ℕ, ◌*◌, ◌<◌, ◌≤◌, Bool, true, false, ◌&&◌, eqb, ltb, List, [], ◌∷◌, length, get_or, Some, sym, refl, ap, ◌∙◌, subst, mul-le-mul, arith}
-use Rattle.std.proofs.lemmas.Bool.{and_parts, ltb-true, eqb-true}
-use Rattle.std.proofs.lemmas.Bool.Decides.{nat_tests}
-use Rattle.hexboard.specs.Board.{Board, at, next_to, begins, ends, goes_on, is_way, Connects}
-use Rattle.hexboard.specs.Geometry.{laid, Beside, neighbour_of}
+use Rattle.std.proofs.Common.{◌≡◌, ℕ, ◌*◌, ◌<◌, ◌≤◌, true, ◌&&◌, eqb, ltb, List, [], ◌∷◌, length, Some, sym, refl, ap, ◌∙◌, mul-le-mul, arith}
+use Rattle.std.proofs.lemmas.Bool.{and_parts, ltb-true}
+use Rattle.hexboard.specs.Board.{Board, at, next_to, begins, goes_on, is_way, Connects}
+use Rattle.hexboard.specs.Geometry.{laid, neighbour_of}
 use Rattle.hexboard.proofs.Neighbours.{next_symmetric, neighbour_all}
 use Rattle.paths.specs.Search.{Ahead}
 use Rattle.paths.specs.Words.{words}
-use Rattle.paths.specs.Ways.{Ground, is_stone, ground, leads, crosses}
+use Rattle.paths.specs.Ways.{is_stone, ground, leads, crosses}
 use Rattle.paths.proofs.TwoBytes.{length_words}
 use Rattle.paths.proofs.Crossings.{Mutual, no_way}
 

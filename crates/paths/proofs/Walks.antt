@@ -1,10 +1,10 @@
 -- The walk from a place at the first border along the places from which each was reached, and the shortest way that it writes.
-use Rattle.std.proofs.Common.{◌≡◌, ℕ, ◌+◌, ◌-◌, ◌*◌, ◌<◌, ◌≤◌, Bool, true, false, ◌&&◌, ◌≢◌, ◌⊎◌, List, [], ◌∷◌, ◌++◌, length, get_or, take, drop, set, sym, refl, ap, ◌∙◌, subst, inl, inr, ⊎_elim, arith, below_more}
+use Rattle.std.proofs.Common.{◌≡◌, ℕ, ◌+◌, ◌*◌, ◌<◌, ◌≤◌, true, false, ◌&&◌, ◌≢◌, List, [], ◌∷◌, ◌++◌, length, get_or, take, drop, set, sym, refl, ap, ◌∙◌, subst, ⊎_elim, arith, below_more}
 use Rattle.std.proofs.lemmas.List.{append-nil, append_assoc, length-take-le, take_more_set, get_or-set_same, get_or-set_other, get_or-take}
 use Rattle.std.proofs.lemmas.Bool.{and_from, both_ways}
 use Rattle.paths.specs.Ways.{Ground, ground, leads, crosses, Shortest, Written}
-use Rattle.paths.specs.Search.{Reached, parent, Child, Tree, Met}
-use Rattle.hexboard.specs.Board.{Board, is_way}
+use Rattle.paths.specs.Search.{Reached, parent, Child, Met}
+use Rattle.hexboard.specs.Board.{Board}
 use Rattle.paths.specs.Words.{words}
 use Rattle.paths.proofs.TwoBytes.{words_take}
 use Rattle.paths.proofs.Crossings.{Mutual}

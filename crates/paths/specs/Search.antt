@@ -1,5 +1,5 @@
 -- What a breadth-first search from the last border knows: which places it has reached, from which, in what order and how deep.
-use Rattle.std.specs.Prelude.{◌≡◌, ℕ, ◌+◌, ◌-◌, ◌*◌, ◌<◌, ◌≤◌, Bool, true, ◌⊎◌, List, length, count_by, ◌≢◌, nat_eq, slice_index}
+use Rattle.std.specs.Prelude.{◌≡◌, ℕ, ◌+◌, ◌-◌, ◌*◌, ◌<◌, ◌≤◌, true, ◌⊎◌, List, length, count_by, ◌≢◌, nat_eq, slice_index}
 use Rattle.paths.specs.Ways.{Ground, crosses}
 
 -- The lent memory of a search on a board n wide: a byte for each cell of the board, and two in the queue and in `from`.

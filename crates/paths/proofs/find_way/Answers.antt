@@ -1,4 +1,4 @@
-use Rattle.std.proofs.Common.{◌≡◌, ◌+◌, ◌-◌, ◌*◌, ◌<◌, ◌≤◌, length, set, sym, refl, ap, ◌∙◌, subst, subst₂, arith}
+use Rattle.std.proofs.Common.{◌≡◌, ◌+◌, ◌-◌, set, sym, refl, ap, ◌∙◌, subst, subst₂, arith}
 use Rattle.hexboard.specs.Geometry.{laid}
 use Rattle.hexboard.specs.Sides.{number}
 use Rattle.paths.specs.Words.{words}

@@ -1,4 +1,4 @@
-use Rattle.std.proofs.Common.{◌≡◌, ℕ, ◌-◌, ◌*◌, ◌<◌, drop}
+use Rattle.std.proofs.Common.{◌≡◌, ◌-◌, ◌*◌, ◌<◌, drop}
 use Rattle.hexboard.specs.Geometry.{laid}
 use Rattle.hexboard.specs.Sides.{number}
 use Rattle.paths.specs.Words.{words}

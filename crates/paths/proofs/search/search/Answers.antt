@@ -1,4 +1,4 @@
-use Rattle.std.proofs.Common.{◌≡◌, ◌+◌, ◌*◌, ◌<◌, ◌≤◌, length, sym, ◌∙◌, subst, subst₂, arith, MatchOption}
+use Rattle.std.proofs.Common.{◌+◌, sym, subst, subst₂, arith, MatchOption}
 use Rattle.hexboard.specs.Board.{Connects}
 use Rattle.hexboard.specs.Geometry.{laid, neighbour_of}
 use Rattle.hexboard.specs.Sides.{number}

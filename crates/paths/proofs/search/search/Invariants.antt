@@ -1,4 +1,4 @@
-use Rattle.std.proofs.Common.{◌≡◌, ℕ, ◌-◌, ◌*◌, length, None}
+use Rattle.std.proofs.Common.{◌≡◌, ◌-◌, ◌*◌, None}
 use Rattle.hexboard.specs.Geometry.{laid, neighbour_of}
 use Rattle.hexboard.specs.Sides.{number}
 use Rattle.paths.specs.Words.{words}

@@ -1,14 +1,12 @@
-use Rattle.std.proofs.Common.{◌≡◌, ℕ, ◌+◌, ◌*◌, ◌<◌, true, false, ◌&&◌, List, length, replicate, sym, ap, ◌∙◌, subst, subst₂, arith}
-use Rattle.std.proofs.lemmas.Bool.{and_from, both_ways}
-use Rattle.hexboard.specs.Board.{begins, ends}
+use Rattle.std.proofs.Common.{◌≡◌, ℕ, ◌+◌, ◌*◌, ◌<◌, true, replicate, sym, ap, ◌∙◌, subst, subst₂, arith}
 use Rattle.hexboard.specs.Geometry.{laid}
 use Rattle.hexboard.specs.Sides.{number}
 use Rattle.paths.specs.Words.{words}
-use Rattle.paths.specs.Ways.{is_stone, ground}
+use Rattle.paths.specs.Ways.{ground}
 use Rattle.paths.specs.Search.{Met}
 use Rattle.paths.proofs.TwoBytes.{words_zeros}
 use Rattle.paths.proofs.Grounds.{own_inside, lent_words}
-use Rattle.paths.proofs.Sources.{Sown, sow_none, sow_past, sow_own, sow_room, sow_met, sow_more, sow_all}
+use Rattle.paths.proofs.Sources.{Sown, sow_none, sow_past, sow_own, sow_room, sow_met, sow_more}
 use Rattle.paths.proofs.search.sow.Goals as goal
 
 pub loop-cell-init : goal.loop-cell-init
