@@ -191,7 +191,7 @@ mod tests {
         for left in [4, 3, 2, 1, 0] {
             assert_eq!(rt; desk.take_back(), Ok(left));
         }
-        assert_eq!(rt; desk.cells(), &[0; 49]);
+        assert_eq!(rt; desk.cells(), [0; 49].as_slice());
         Ok(())
     }
 }
