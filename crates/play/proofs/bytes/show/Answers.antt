@@ -7,4 +7,4 @@ pub returns-in-Way : goal.returns-in-Way
 returns-in-Way c =
     rw c.in-Way.is
     (shown_way c.in-Way.side c.in-Way.count c.args.answer.now (omega (arith, ap way_cells c.in-Way.is, c.requires.way))
-    c.write-way-head.new.out (λ i. omega (arith, c.type-inv.answer i)) c.write-way-head.result c.write-way-head.ensures.head)
+    c.write_way_head.new.out (λ i. omega (arith, c.type_inv.answer i)) c.write_way_head.result c.write_way_head.ensures.head)

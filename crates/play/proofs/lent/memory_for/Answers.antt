@@ -18,5 +18,5 @@ table-within n = ⊎_elim (λ less. let all = small n (omega arith) in grind (ar
 pub returns : goal.returns
 returns c =
     let cells = c.cells.ensures.value in
-    let table = c.bytes_of_table.ensures in
+    let table = c.table_bytes.ensures in
     record { value = omega arith; bound = omega (arith, table-within c.args.size.n) }

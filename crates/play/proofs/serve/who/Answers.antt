@@ -8,25 +8,25 @@ use Rattle.history.proofs.Serving.{right_nobody, winner_connects}
 use Rattle.play.proofs.Asking.{right_found, not_refused_number, not_refused_way}
 use Rattle.play.proofs.serve.who.Goals as goal
 
-pub returns-in-default : goal.returns-in-default
-returns-in-default c = record {
-  right = λ log parents borders h. right_nobody c.args.game _ h (ap won_by (sym c.winner.ensures ∙ c.in-default.is));
+pub returns-in_default : goal.returns-in_default
+returns-in_default c = record {
+  right = λ log parents borders h. right_nobody c.args.game _ h (ap won_by (sym c.winner.ensures ∙ c.in_default.is));
   fits = omega arith;
   behind = refl;
   served = not_refused_number 0;
 }
 
-pub returns-in-Some-find-way : goal.returns-in-Some-find-way
-returns-in-Some-find-way c =
+pub returns-in-Some-find_way : goal.returns-in-Some-find_way
+returns-in-Some-find_way c =
     let written =
-    subst (λ n. Written (laid n c.args.stones.now) (number c.in-Some.side) c.args.way.now c.find-way.new.out c.in-Some-find-way.count)
-    (ap (λ s. s.n) c.size-size.ensures) c.in-Some-find-way.ensures in
+    subst (λ n. Written (laid n c.args.stones.now) (number c.in-Some.side) c.args.way.now c.find_way.new.out c.in-Some-find_way.count)
+    (ap (λ s. s.n) c.size-size.ensures) c.in-Some-find_way.ensures in
     record {
       right = λ log parents borders h.
-          right_found c.args.game (lent c.args.stones.now log parents borders) h c.in-Some.side (ap won_by (sym c.winner.ensures ∙ c.in-Some.is)) _ _ c.in-Some-find-way.count written;
+          right_found c.args.game (lent c.args.stones.now log parents borders) h c.in-Some.side (ap won_by (sym c.winner.ensures ∙ c.in-Some.is)) _ _ c.in-Some-find_way.count written;
       fits = omega (arith, written.count, written.shortest.few, c.requires.long);
       behind = written.behind;
-      served = not_refused_way c.in-Some.side c.in-Some-find-way.count;
+      served = not_refused_way c.in-Some.side c.in-Some-find_way.count;
     }
 
 pub returns-in-None : goal.returns-in-None

@@ -5,8 +5,8 @@ use Rattle.play.specs.Desks.{memory_of}
 use Rattle.play.proofs.Keeping.{desk_holds}
 use Rattle.play.proofs.desk.Desk.empty_cells.Goals as goal
 
-pub overflow-sub-result : goal.overflow-sub-result
-overflow-sub-result c = let d = c.args.self.now in omega (arith, d.game.few, c.cells-cells.ensures.value, c.count.ensures, ap (λ s. s.n * s.n) c.size.ensures)
+pub overflow_sub-result : goal.overflow_sub-result
+overflow_sub-result c = let d = c.args.self.now in omega (arith, d.game.few, c.cells-cells.ensures.value, c.count.ensures, ap (λ s. s.n * s.n) c.size.ensures)
 
 pub returns : goal.returns
 returns c =
