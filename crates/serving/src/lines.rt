@@ -36,14 +36,16 @@ impl From<fmt::Error> for Failed {
 fn write_unreadable(out: &mut String, place: usize) -> fmt::Result
     ensures { OnOk result (string_bytes out.new ≡ string_bytes out.old ++ (codes "refused 1 at " ++ decimal place)) }
 {
-    write!(out, "refused 1 at {place}")
+    write!(out, "refused 1 at {place}")?;
+    Ok(())
 }
 
 // Adds what opening a board is answered by.
 fn write_opened(out: &mut String, n: u16) -> fmt::Result
     ensures { OnOk result (string_bytes out.new ≡ string_bytes out.old ++ (codes "board " ++ decimal n)) }
 {
-    write!(out, "board {n}")
+    write!(out, "board {n}")?;
+    Ok(())
 }
 
 // A board no larger than the program serves, or none where n is out of range.

@@ -137,5 +137,6 @@ fn write_tally(out: &mut String, name: &str, tally: Tally) -> fmt::Result
     writeln!(
         out,
         "{name}: {count} calls, {total} ns in all, longest {longest} ns"
-    )
+    )?;
+    Ok(())
 }

@@ -1,4 +1,4 @@
-mod Added
+pub mod Added
 mod Again
 mod Asked
 mod Columns

@@ -6,5 +6,5 @@ pub returns : goal.returns
 returns c =
     made_if_ok _ _
     (λ ok.
-    drawn _ _ _ _ _ _ _ _ c.winner.result c.size.ensures c.cells.ensures c.winner.ensures c.in-ok-write-board.ensures c.in-ok-write-outcome.ensures
-    (c.write-str.ensures.ok ok))
+    drawn _ _ _ _ _ _ _ _ c.winner.result c.size.ensures c.cells.ensures c.winner.ensures c.in_ok-write_board.ensures c.in_ok-write_outcome.ensures
+    (c.write_str.ensures.ok ok))

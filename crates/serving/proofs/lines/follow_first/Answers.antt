@@ -1,10 +1,10 @@
 use Rattle.serving.specs.Served.{First, opening}
 use Rattle.serving.proofs.lines.follow_first.Goals as goal
 
-pub returns-in-ok-write-unreadable : goal.returns-in-ok-write-unreadable
-returns-in-ok-write-unreadable c = rw c.in-Call.is (λ bytes says. (_, c.in-ok-write-unreadable.ensures, First.call_before c.in-Call.-call says))
+pub returns-in_ok-write_unreadable-in-Call : goal.returns-in_ok-write_unreadable-in-Call
+returns-in_ok-write_unreadable-in-Call c = rw c.in-Call.is (λ bytes says. (_, c.in_ok-write_unreadable-in-Call.ensures, First.call_before c.in-Call._call says))
 
-pub returns-in-ok-opened : goal.returns-in-ok-opened
-returns-in-ok-opened c =
+pub returns-in_ok-opened-in-Board : goal.returns-in_ok-opened-in-Board
+returns-in_ok-opened-in-Board c =
     rw c.in-Board.is
-    (λ bytes asks. (opening c.in-Board.n c.in-ok-opened.opened, c.in-ok-opened.ensures.1, First.opened c.in-Board.n c.in-ok-opened.opened asks c.in-ok-opened.ensures.0))
+    (λ bytes asks. (opening c.in-Board.n c.in_ok-opened-in-Board.opened, c.in_ok-opened-in-Board.ensures.1, First.opened c.in-Board.n c.in_ok-opened-in-Board.opened asks c.in_ok-opened-in-Board.ensures.0))

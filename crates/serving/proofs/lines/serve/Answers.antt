@@ -7,24 +7,24 @@ use Rattle.play.specs.declared.reply.Reply.{Reply}
 use Rattle.serving.specs.Served.{answer_is_taken}
 use Rattle.serving.proofs.Answering.{right_again}
 use Rattle.serving.proofs.lines.serve.Goals as goal
-use Rattle.serving.proofs.lines.serve.Goals.{then-is-beyond, else-is-beyond}
+use Rattle.serving.proofs.lines.serve.Goals.{then-is_beyond, else-is_beyond}
 
 pub returns : goal.returns
 returns c =
-    let line = c.in-ok-write-answer.ensures ∙ ap (λ (a : games.Answer). string_bytes c.args.out.now ++ line_of a) (c.answer.ensures ∙ ap (replied c.if-is-beyond.reply) c.way.ensures) in
-    elim c.if-is-beyond.branch [
-      | then-is-beyond w ↦ inr (
-        c.is-beyond.ensures.0 w.if-is-beyond.true,
+    let line = c.in_ok-write_answer.ensures ∙ ap (λ (a : games.Answer). string_bytes c.args.out.now ++ line_of a) (c.answer.ensures ∙ ap (replied c.if-is_beyond.reply) c.way.ensures) in
+    elim c.if-is_beyond.branch [
+      | then-is_beyond w ↦ inr (
+        c.is_beyond.ensures.0 w.if-is_beyond.true,
         ap desk_game w.desk-is,
-        c.answer_is_taken.ensures [] ∙ ap (λ (r : Reply). answer_is_taken (replied r [])) w.reply-is,
-        line ∙ ap (λ (r : Reply). string_bytes c.args.out.now ++ line_of (replied r (vec_items c.if-is-beyond.desk.way))) w.reply-is,
+        c.is_taken.ensures [] ∙ ap (λ (r : Reply). answer_is_taken (replied r [])) w.reply-is,
+        line ∙ ap (λ (r : Reply). string_bytes c.args.out.now ++ line_of (replied r (vec_items c.if-is_beyond.desk.way))) w.reply-is,
       )
-      | else-is-beyond w ↦ inl (
-        λ beyond. let t = c.is-beyond.ensures.1 beyond in let f = w.if-is-beyond.false in let z : ◌≡◌ {A = ℕ} 0 1 = cc in omega arith,
+      | else-is_beyond w ↦ inl (
+        λ beyond. let t = c.is_beyond.ensures.1 beyond in let f = w.if-is_beyond.false in let z : ◌≡◌ {A = ℕ} 0 1 = cc in omega arith,
         (
-          replied c.if-is-beyond.reply (vec_items c.if-is-beyond.desk.way),
+          replied c.if-is_beyond.reply (vec_items c.if-is_beyond.desk.way),
           line,
-          c.answer_is_taken.ensures (vec_items c.if-is-beyond.desk.way),
+          c.is_taken.ensures (vec_items c.if-is_beyond.desk.way),
           right_again _ _ _ _ _ _ w.desk-is w.reply-is w.serve-reply.ensures,
         ),
       )
