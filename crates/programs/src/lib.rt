@@ -4,6 +4,7 @@
 ghost use Rattle.std.specs.Prelude.{◌≡◌, MatchOption, ◌≢◌};
 ghost use Rattle.programs.specs.Flags.{written};
 
+use anyhow::anyhow;
 use play::Desk;
 use serving::{
     Kind, Limits, Times, answer_line, kind_of, write_marked_position, write_position, write_times,
@@ -88,10 +89,9 @@ pub fn run(rt: &HostRuntime, program: Program) -> anyhow::Result<()> {
             Some(Flag::Times) if program.flags => timed = true,
             _ => {
                 let name = program.name;
-                let told = format!(in rt.alloc();
+                return Err(anyhow!(
                     "no such argument: {argument}; {name} --help tells what there is"
-                )?;
-                return Err(told.into());
+                ));
             }
         }
     }
