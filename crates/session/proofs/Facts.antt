@@ -1,7 +1,6 @@
 -- What a desk keeps is that its memory holds its game; and memory that was lent comes back as it was left.
 use Rattle.std.proofs.Common.{◌≡◌, ℕ, List, ◌++◌, length, take, drop, sym, refl, ap, ◌∙◌, subst}
 use Rattle.std.proofs.lemmas.List.{take_at}
-use Rattle.groups.specs.Forest.{Forest, held}
 use Rattle.hexboard.specs.Games as games
 use Rattle.wire.specs.Numbers.{reason}
 use Rattle.wire.specs.declared.refusal.Refusal.{Refusal}

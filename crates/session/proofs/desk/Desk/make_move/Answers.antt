@@ -1,4 +1,4 @@
-use Rattle.std.proofs.Common.{◌≡◌, sym, refl, ap, subst, arith}
+use Rattle.std.proofs.Common.{◌≡◌, sym, ap, subst, arith}
 use Rattle.hexboard.specs.Games as games
 use Rattle.history.specs.Holds.{lent, Holds}
 use Rattle.session.specs.Desks.{memory_of}
@@ -21,12 +21,12 @@ pub invariant_of-self : goal.invariant_of-self
 invariant_of-self c =
     let d = c.args.self.now in
     let kept =
-      keeps_back
-          c.make_move.new.stones c.make_move.new.log c.make_move.new.parents c.make_move.new.borders
-          d.stones.items d.log.items d.parents.items d.borders.items d.stones.len d.log.len d.parents.len d.borders.len
-          (omega (arith, c.make_move.auto.stones, c.deref_mut.ensures.len)) (omega (arith, c.make_move.auto.log, c.deref_mut-2.ensures.len))
-          (omega (arith, c.make_move.auto.parents, c.deref_mut-3.ensures.len)) (omega (arith, c.make_move.auto.borders, c.deref_mut-4.ensures.len))
-          c.in-Ok.game c.in-Ok.ensures.holds
+    keeps_back
+    c.make_move.new.stones c.make_move.new.log c.make_move.new.parents c.make_move.new.borders
+    d.stones.items d.log.items d.parents.items d.borders.items d.stones.len d.log.len d.parents.len d.borders.len
+    (omega (arith, c.make_move.auto.stones, c.deref_mut.ensures.len)) (omega (arith, c.make_move.auto.log, c.deref_mut-2.ensures.len))
+    (omega (arith, c.make_move.auto.parents, c.deref_mut-3.ensures.len)) (omega (arith, c.make_move.auto.borders, c.deref_mut-4.ensures.len))
+    c.in-Ok.game c.in-Ok.ensures.holds
     in
     record { room = room_same d.game c.in-Ok.game _ _ _ c.in-Ok.ensures.same_size d.room; fair = kept.0; written = kept.1.0; grouped = kept.1.1.0 }
 
@@ -35,12 +35,12 @@ invariant_of-self-in-Err-1 c =
     let d = c.args.self.now in
     let before = (goal.at.invariant_of-self-in-Err-1 c).After-deref_mut-4 in
     let kept =
-      keeps_away
-          c.make_move.new.stones c.make_move.new.log c.make_move.new.parents c.make_move.new.borders
-          d.stones.items d.log.items d.parents.items d.borders.items d.stones.len d.log.len d.parents.len d.borders.len
-          (omega (arith, c.make_move.auto.stones, c.deref_mut.ensures.len)) (omega (arith, c.make_move.auto.log, c.deref_mut-2.ensures.len))
-          (omega (arith, c.make_move.auto.parents, c.deref_mut-3.ensures.len)) (omega (arith, c.make_move.auto.borders, c.deref_mut-4.ensures.len))
-          d.game _ (memory_of d) (games.moves c.args.cell) c.in-Err.why (lent-now before) (held-now before) c.in-Err.ensures
+    keeps_away
+    c.make_move.new.stones c.make_move.new.log c.make_move.new.parents c.make_move.new.borders
+    d.stones.items d.log.items d.parents.items d.borders.items d.stones.len d.log.len d.parents.len d.borders.len
+    (omega (arith, c.make_move.auto.stones, c.deref_mut.ensures.len)) (omega (arith, c.make_move.auto.log, c.deref_mut-2.ensures.len))
+    (omega (arith, c.make_move.auto.parents, c.deref_mut-3.ensures.len)) (omega (arith, c.make_move.auto.borders, c.deref_mut-4.ensures.len))
+    d.game _ (memory_of d) (games.moves c.args.cell) c.in-Err.why (lent-now before) (held-now before) c.in-Err.ensures
     in
     record { room = d.room; fair = kept.0; written = kept.1.0; grouped = kept.1.1.0 }
 
