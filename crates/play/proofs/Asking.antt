@@ -1,5 +1,5 @@
 -- Who has connected, and the way that shows it.
-use Rattle.std.proofs.Common.{◌≡◌, ℕ, ◌+◌, ◌-◌, ◌*◌, ◌≤◌, min, List, [], ◌∷◌, length, take, Some, None, Option, sym, refl, ap, ◌∙◌, subst, ⊎_elim, arith, MatchOption}
+use Rattle.std.proofs.Common.{◌≡◌, ℕ, ◌+◌, ◌-◌, ◌*◌, min, List, [], ◌∷◌, length, take, Some, None, Option, sym, refl, ap, ◌∙◌, subst, ⊎_elim, arith, MatchOption}
 use Rattle.std.proofs.lemmas.List.{take_all}
 use Rattle.std.proofs.str.Laws.{order}
 use Rattle.hexboard.specs.Board.{Connects}
@@ -15,7 +15,6 @@ use Rattle.history.specs.Holds.{won_by, Memory, moves_in, formal, Holds}
 use Rattle.history.specs.declared.game.Game.{Game}
 use Rattle.history.proofs.Serving.{some_side, not_won, winner_connects, right_way}
 use Rattle.history.proofs.Turns.{winner_open, winner_won}
-use Rattle.play.specs.declared.reply.Reply.{Reply}
 use Rattle.play.specs.declared.reply.Reply.TheVariants as reply
 use Rattle.wire.specs.declared.refusal.Refusal.{Refusal}
 

@@ -1,13 +1,12 @@
 -- Whether the side to move can force that it connects: somebody has won already, or the end is looked through.
-use Rattle.std.proofs.Common.{◌≡◌, ℕ, suc, ◌+◌, ◌*◌, ◌%◌, ◌<◌, ◌≤◌, eqb, ◌≢◌, ◌⊎◌, List, length, sym, refl, ap, ◌∙◌, subst, inl, inr, ⊎_elim, add-one, arith}
-use Rattle.hexboard.specs.Board.{pick, Board, Connects, other}
+use Rattle.std.proofs.Common.{◌≡◌, ℕ, ◌+◌, ◌*◌, ◌%◌, ◌<◌, eqb, ◌≢◌, sym, refl, ap, ◌∙◌, subst, inl, inr, add-one}
+use Rattle.hexboard.specs.Board.{pick, Board, Connects}
 use Rattle.hexboard.specs.Games as games
 use Rattle.hexboard.specs.Promise.{Good, OneOfBoth}
 use Rattle.hexboard.specs.Sides.{number}
 use Rattle.hexboard.specs.declared.side.Side.{Side}
 use Rattle.hexboard.specs.declared.side.Side.TheVariants.{One, Two}
 use Rattle.theorems.proofs.Decided.{one_of_both_lem}
-use Rattle.groups.specs.Moves.{board_of, turn_of}
 use Rattle.groups.proofs.Positions.{board_good, board_cells}
 use Rattle.verdict.specs.Verdicts as Verdicts
 use Rattle.verdict.specs.Verdicts.{Judges}

@@ -1,10 +1,9 @@
 -- What a desk keeps is that its memory holds its game; and memory that was lent comes back as it was left.
-use Rattle.std.proofs.Common.{◌≡◌, ℕ, ◌*◌, ◌<◌, ◌≤◌, List, ◌++◌, length, take, drop, sym, refl, ap, ◌∙◌, subst, ⊎_elim, mul-le-mul, arith}
+use Rattle.std.proofs.Common.{◌≡◌, ℕ, ◌*◌, ◌≤◌, List, ◌++◌, length, take, drop, sym, ap, subst, ⊎_elim, mul-le-mul, arith}
 use Rattle.std.proofs.lemmas.Bool.Decides.{nat_tests}
 use Rattle.std.proofs.str.Laws.{order}
 use Rattle.verdict.specs.Verdicts.{bytes_of_table}
 use Rattle.std.proofs.lemmas.List.{take_at}
-use Rattle.groups.specs.Forest.{Forest, held}
 use Rattle.hexboard.specs.Games as games
 use Rattle.history.specs.Holds.{Memory, lent, formal, Holds}
 use Rattle.history.specs.declared.game.Game.{Game}

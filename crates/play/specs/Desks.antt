@@ -1,10 +1,6 @@
 -- The game of the rules that a desk stands for, and what its answers are by the rules.
-use Rattle.std.specs.Prelude.{◌≡◌, ℕ, ◌*◌, ◌<◌, ◌≤◌, List, take, Some, None, Ok, Err, vec_items, Option, Result}
+use Rattle.std.specs.Prelude.{◌≡◌, ℕ, ◌<◌, ◌≤◌, Ok, Err, vec_items, Result}
 use Rattle.hexboard.specs.Games as games
-use Rattle.hexboard.specs.Sides.{number}
-use Rattle.hexboard.specs.declared.side.Side.{Side}
-use Rattle.wire.specs.Numbers.{reason}
-use Rattle.wire.specs.declared.refusal.Refusal.{Refusal}
 use Rattle.wire.specs.declared.refusal.Refusal.TheVariants as refusal
 use Rattle.history.specs.Holds.{Memory, lent, formal}
 use Rattle.play.specs.declared.desk.Desk.{Desk}

@@ -1,5 +1,5 @@
 -- What a desk keeps between calls, as a fact that holds in at most one way, so that it can stand in the desk's type.
-use Rattle.std.specs.Prelude.{◌≡◌, ℕ, ◌-◌, ◌*◌, ◌<◌, ◌≤◌, List, ◌++◌, length, take}
+use Rattle.std.specs.Prelude.{◌≡◌, ℕ, ◌-◌, ◌*◌, ◌<◌, ◌≤◌, ◌++◌, length, take}
 use Rattle.hexboard.specs.Board.{all_cells, Connects}
 use Rattle.hexboard.specs.Words.{words}
 use Rattle.groups.specs.Forest.{held}

@@ -1,5 +1,5 @@
 -- What a call does to a game in lent memory, and what it is answered by.
-use Rattle.std.specs.Prelude.{◌≡◌, ℕ, ◌*◌, ◌≤◌, List, length, drop}
+use Rattle.std.specs.Prelude.{◌≡◌, ℕ, ◌*◌, ◌≤◌, List, drop}
 use Rattle.hexboard.specs.Games as games
 use Rattle.wire.specs.Formal.{asked}
 use Rattle.wire.specs.declared.call.Call.{Call}

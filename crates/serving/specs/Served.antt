@@ -1,5 +1,5 @@
 -- What a line is answered by, and the game afterwards. Definitions only.
-use Rattle.std.specs.Prelude.{◌≡◌, ℕ, ◌-◌, ◌<◌, ◌≤◌, Bool, true, false, ◌&&◌, ◌⊎◌, List, ◌++◌, length, take, is_some, Some, None, string_bytes, codes, decimal, Option, ◌==◌, nat_lt, slice_index}
+use Rattle.std.specs.Prelude.{◌≡◌, ℕ, ◌-◌, ◌<◌, ◌≤◌, Bool, true, false, ◌&&◌, ◌⊎◌, List, ◌++◌, length, take, is_some, Some, None, codes, decimal, Option, ◌==◌, nat_lt, slice_index}
 use Rattle.hexboard.specs.Board.{pick, empties}
 use Rattle.hexboard.specs.Games as games
 use Rattle.wire.specs.Formal.{asked}

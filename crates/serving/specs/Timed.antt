@@ -1,7 +1,6 @@
 -- Kinds of lines, how often each came, and how long serving it took. Definitions only.
 use Rattle.std.specs.Prelude.{◌≡◌, ℕ, ◌+◌, ◌-◌, ◌^◌, min, max, List, [], ◌++◌, codes, decimal, Option, MatchOption, ◌==◌}
 use Rattle.hexboard.specs.Board.{pick}
-use Rattle.wire.specs.declared.call.Call.{Call}
 use Rattle.wire.specs.declared.call.Call.TheVariants as call
 use Rattle.text.specs.Lines.{Asks, Readable}
 use Rattle.text.specs.declared.reading.Line.{Line}

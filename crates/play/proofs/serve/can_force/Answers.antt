@@ -1,5 +1,5 @@
 use denote.Enum.Bare.{same_true, same_false}
-use Rattle.std.proofs.Common.{rules, ◌≡◌, ℕ, ◌*◌, ◌≤◌, length, sym, refl, ap, ◌∙◌, subst, mul-le-mul, arith}
+use Rattle.std.proofs.Common.{rules, ◌≡◌, ◌*◌, ◌≤◌, length, sym, refl, ap, ◌∙◌, subst, mul-le-mul, arith}
 use Rattle.hexboard.specs.Sides.{number}
 use Rattle.hexboard.specs.contracts.side.Side.{the_type}
 use Rattle.verdict.specs.Verdicts.{bytes_of_table, Judges}

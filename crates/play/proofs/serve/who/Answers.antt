@@ -1,9 +1,9 @@
-use Rattle.std.proofs.Common.{◌≡◌, ℕ, ◌*◌, List, sym, refl, ap, ◌∙◌, subst, arith}
+use Rattle.std.proofs.Common.{sym, refl, ap, ◌∙◌, subst, arith}
 use Rattle.hexboard.specs.Board.{Connects}
 use Rattle.hexboard.specs.Geometry.{laid}
 use Rattle.hexboard.specs.Sides.{number}
 use Rattle.paths.specs.Ways.{Written}
-use Rattle.history.specs.Holds.{won_by, lent, Holds}
+use Rattle.history.specs.Holds.{won_by, lent}
 use Rattle.history.proofs.Serving.{right_nobody, winner_connects}
 use Rattle.play.proofs.Asking.{right_found, not_refused_number, not_refused_way}
 use Rattle.play.proofs.serve.who.Goals as goal

@@ -1,4 +1,4 @@
-use Rattle.std.proofs.Common.{◌≡◌, ℕ, List, [], ◌++◌, vec_items, string_bytes, ap, ◌∙◌, inl, inr, arith}
+use Rattle.std.proofs.Common.{◌≡◌, ℕ, [], ◌++◌, vec_items, string_bytes, ap, ◌∙◌, inl, inr, arith}
 use Rattle.hexboard.specs.Games as games
 use Rattle.text.specs.Answers.{line_of}
 use Rattle.play.specs.Desks.{desk_game}

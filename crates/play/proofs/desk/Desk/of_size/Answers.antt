@@ -16,7 +16,7 @@ invariant_of-result c =
     (omega (arith, c.start-game.auto.stones, c.deref_mut.ensures.len)) (omega (arith, c.start-game.auto.log, c.deref_mut-2.ensures.len))
     (omega (arith, c.start-game.auto.parents, c.deref_mut-3.ensures.len)) (omega (arith, c.start-game.auto.borders, c.deref_mut-4.ensures.len)) in
     let room =
-      subst (λ z. Roomy z.n c.in_ok-scratch.scratch.len c.in_ok-way.way.len) (sym c.start-game.ensures.size)
-          (omega (arith, many, path_fits c.args.size.n c.args.size.few), omega (arith, c.in_ok-way.ensures.len, cells), omega (arith, many)) in
+    subst (λ z. Roomy z.n c.in_ok-scratch.scratch.len c.in_ok-way.way.len) (sym c.start-game.ensures.size)
+    (omega (arith, many, path_fits c.args.size.n c.args.size.few), omega (arith, c.in_ok-way.ensures.len, cells), omega (arith, many)) in
     let kept = kept_in c.start-game.result _ (subst (Holds c.start-game.result) after c.start-game.ensures.holds) in
     record { room = room; fair = kept.0; written = kept.1.0; grouped = kept.1.1.0 }

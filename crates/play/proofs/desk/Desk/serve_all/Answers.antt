@@ -1,6 +1,5 @@
-use Rattle.std.proofs.Common.{List, [], ◌∷◌, ◌++◌, sym, refl, ap, ◌∙◌, subst, arith}
+use Rattle.std.proofs.Common.{[], ◌∷◌, ◌++◌, ap, ◌∙◌, arith}
 use Rattle.std.proofs.lemmas.List.{take_more}
-use Rattle.hexboard.specs.Games as games
 use Rattle.play.specs.Desks.{desk_game}
 use Rattle.play.specs.Replies.{replied}
 use Rattle.play.proofs.Running.{heard_none, heard_more, heard_all}

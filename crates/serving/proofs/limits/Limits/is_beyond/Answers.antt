@@ -1,4 +1,4 @@
-use Rattle.std.proofs.Common.{◌≡◌, true, false, ap, arith}
+use Rattle.std.proofs.Common.{arith}
 use Rattle.serving.proofs.Outcomes.{open_if_nobody}
 use Rattle.serving.proofs.limits.Limits.is_beyond.Goals as goal
 
