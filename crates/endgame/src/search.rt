@@ -60,20 +60,24 @@ fn replies(threats: u64, free: u64) -> Cut
     }
 }
 
-// Of the cells that must be tried, the one that is linked best for both sides together.
+// The cells that an end can have.
+const CELLS: u64 = 0xffff;
+
+// Of the cells that must be tried, the one that is linked best for both sides together. Only stones on cells of an end weigh.
 fn best(mine: &Links, theirs: &Links, at: Position, must: u64) -> u64
     requires some { 0 < must }
     requires fits { must < 2 ^ 16 }
-    requires stones { (at.mine < 2 ^ 16) × (at.theirs < 2 ^ 16) }
     ensures { One must result }
 {
+    let own = at.mine & CELLS;
+    let others = at.theirs & CELLS;
     let mut best = lowest(must);
     let mut most = 0;
     let mut rest = must;
     while rest > 0 {
         let k = lowest(rest);
         rest -= one(k);
-        let linked = weight(mine, k, at.mine, at.free) + weight(theirs, k, at.theirs, at.free);
+        let linked = weight(mine, k, own, at.free) + weight(theirs, k, others, at.free);
         if linked > most {
             most = linked;
             best = k;

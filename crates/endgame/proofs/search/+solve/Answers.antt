@@ -61,12 +61,9 @@ loop-must-init t c =
 pub best-step-requires : goal.best-step-requires
 best-step-requires t c =
     let e = c.args.ranking.now.cells in
-    let room : 2 ^ e ≤ 2 ^ 16 = pow_mono c.args.ranking.now.few in
-    let position = c.requires.node.position in
     record {
       some = c.loop-must-test.true;
-      fits = le_trans (within_below e c.loop-must.must c.args.at.free c.loop-must.invariant.inside c.requires.node.free_fits) room;
-      stones = (le_trans position.mine_fits room, le_trans position.theirs_fits room);
+      fits = le_trans (within_below e c.loop-must.must c.args.at.free c.loop-must.invariant.inside c.requires.node.free_fits) (pow_mono c.args.ranking.now.few);
     }
 
 pub after-requires : goal.after-requires

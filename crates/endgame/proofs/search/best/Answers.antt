@@ -1,4 +1,5 @@
 use Rattle.std.proofs.Common.{refl, inl, inr, arith}
+use Rattle.std.proofs.lemmas.Nat.{and_le_r}
 use Rattle.ranking.proofs.Bits.{cell_le, cell_below}
 use Rattle.endgame.proofs.Threats.{choosing_more}
 use Rattle.endgame.proofs.search.best.Goals as goal
@@ -12,13 +13,13 @@ overflow_sub-rest c = omega (arith, c.one-rest.ensures, cell_le c.lowest-k.resul
 pub weight-requires : goal.weight-requires
 weight-requires c = record {
   inside = cell_below 16 c.lowest-k.result c.args.must c.requires.fits (c.loop-rest.invariant.inside c.lowest-k.result c.lowest-k.ensures.within);
-  few = c.requires.stones.0;
+  few = omega (arith, and_le_r c.args.at.mine 65535);
 }
 
 pub weight-requires-in-loop-rest : goal.weight-requires-in-loop-rest
 weight-requires-in-loop-rest c = record {
   inside = cell_below 16 c.lowest-k.result c.args.must c.requires.fits (c.loop-rest.invariant.inside c.lowest-k.result c.lowest-k.ensures.within);
-  few = c.requires.stones.1;
+  few = omega (arith, and_le_r c.args.at.theirs 65535);
 }
 
 pub loop-rest-preserved-then-linked-most : goal.loop-rest-preserved-then-linked-most
