@@ -1,18 +1,18 @@
-// Answers calls, a line each, as they come: for a person at a terminal or for a file.
+// Answers calls, can force among them, a line each, as they come: for a person at a terminal or for a file.
 #![tactic(auto)]
 
 use programs::{Prints, Program};
 use serving::Limits;
 
 const HELP: &str =
-    "answer: reads calls from standard input, a line each, and answers each with a line, at once
+    "answer_ends: reads calls from standard input, a line each, and answers each with a line, at once
 
-Usage: answer [--help]
+Usage: answer_ends [--help]
 ";
 
 fn main(rt: HostRuntime) -> anyhow::Result<()> {
     let program = Program {
-        name: "answer",
+        name: "answer_ends",
         help: HELP,
         limits: Limits {
             largest: 7,
