@@ -2,7 +2,7 @@
 """Respells the repository's own definitions and lemmas as today's Rattle spells names, and renames the crate hex to hexboard.
 
 Run once at the top of the repository, after the kit's port.py. Functions, lemmas, fields and constructors get snake case, types camel case;
-names of source files and of the kit stay as they are. It stops where two names would fall together.
+names of source files and of the kit stay as they are. It tells where two names would fall together; with --dry it only tells.
 """
 import glob
 import os
@@ -36,6 +36,14 @@ OTHERWISE = {
     "is-taken": "answer_is_taken",
     "kind-asked": "kind_of_line",
     "table-bytes": "bytes_of_table",
+}
+
+# Names that the kit's script has turned halfway, and names that a file gives to what it imports.
+BESIDES = {
+    "Laid_out": "LaidOut",
+    "get_d_words": "get_or_words",
+    "Position-of": "PositionOf",
+    "Set-of": "SetOf",
 }
 
 
@@ -101,6 +109,7 @@ def main():
                     theirs.add(item.strip().split(" as ")[-1])
     names = {n: respelled(n) for n in own if respelled(n) != n and n not in theirs}
     kept = sorted(n for n in own if respelled(n) != n and n in theirs)
+    names.update(BESIDES)
     new = {}
     for old, to in sorted(names.items()):
         new.setdefault(to, []).append(old)

@@ -1,4 +1,4 @@
-// Serves a desk line by line: what is read, what is called, and what is written. The programs share it.
+// Serves a desk of session line by line: what is read, what is called, and what is written.
 #![tactic(auto)]
 
 mod lines;

@@ -5,7 +5,7 @@ use Rattle.hexboard.specs.Games.{Forces}
 use Rattle.hexboard.specs.Promise.{Good}
 use Rattle.ranking.specs.Sets.{bit}
 use Rattle.ranking.specs.Positions.{place}
-use Rattle.ranking.specs.Positions.{Position as Position-of}
+use Rattle.ranking.specs.Positions.{Position as PositionOf}
 use Rattle.ranking.specs.Table.{entry}
 use Rattle.endgame.specs.declared.links.Links.{Links}
 use Rattle.endgame.specs.declared.search.Found.{Found}
@@ -41,7 +41,7 @@ Stands b es w x c = Forces w (held b es w x c) (other w)
 
 -- A node of the search: the stones of the side to move, those of the other, and the free cells share the e cells.
 pub record Node (e x y free : ℕ) : Type 0 where
-  pub position : Position-of e x y
+  pub position : PositionOf e x y
   pub free_fits : free < 2 ^ e
   pub each : (k : ℕ) → k < e → bit k x + (bit k y + bit k free) ≡ 1
 

@@ -83,23 +83,14 @@ pub fn start(
     hexboard::clear(stones);
     log.fill(0);
     groups::clear(size, parents, borders);
-    Game::new(size)
+    Game {
+        size,
+        count: 0,
+        winner: None,
+    }
 }
 
 impl Game {
-    // A game without moves. Memory that was made ready for the size holds it.
-    pub fn new(size: Size) -> Game
-        ensures size { result.size ≡ size }
-        ensures count { result.count ≡ 0 }
-        ensures nobody { won_by result.winner ≡ 0 }
-    {
-        Game {
-            size,
-            count: 0,
-            winner: None,
-        }
-    }
-
     // How large the board is.
     pub fn size(self) -> Size
         ensures { result ≡ self.size }

@@ -21,7 +21,7 @@ use Rattle.endgame.specs.declared.links.Links.{Links}
 use Rattle.endgame.specs.Ends.{Numbered}
 use Rattle.links.specs.Gathering.{gathered, near_at, borders_at}
 use Rattle.endgame.specs.Linked.{Linked}
-use Rattle.endgame.specs.Linked.{Holds as Set-of}
+use Rattle.endgame.specs.Linked.{Holds as SetOf}
 use Rattle.links.specs.Prepared.{Prepared}
 use Rattle.links.proofs.Gathered.{nothing}
 use Rattle.links.proofs.Ties.{near_only, near_all, bound_only, bound_all}
@@ -32,11 +32,11 @@ side_number One = inl refl
 side_number Two = inr refl
 
 -- the set of none of no cells
-set_none : (P : ℕ → Type 0) → Set-of 0 0 P
+set_none : (P : ℕ → Type 0) → SetOf 0 0 P
 set_none P = record { only = λ k h. absurd (omega (arith, bit_none k)); all = λ k l h. absurd (omega arith) }
 
 -- one more cell, put in if the test that P holds of it is true
-set_more : (P : ℕ → Type 0) (m x : ℕ) (t : Bool) → Set-of m x P → (t ≡ true → P m) → (P m → t ≡ true) → Set-of (m + 1) (pick t (bit_or x (2 ^ m)) x) P
+set_more : (P : ℕ → Type 0) (m x : ℕ) (t : Bool) → SetOf m x P → (t ≡ true → P m) → (P m → t ≡ true) → SetOf (m + 1) (pick t (bit_or x (2 ^ m)) x) P
 set_more P m x true h so only_so = record {
   only = λ k i. ⊎_elim
       (λ old. let (l, p) = h.only k old in (omega arith, p))
@@ -57,8 +57,8 @@ pub record Preparing (N T : ℕ → ℕ) (m : ℕ) (near : List ℕ) (first last
   pub room : length near ≡ 16
   pub each : (k : ℕ) → k < m → get_or near k 0 ≡ N k
   pub beyond : (k : ℕ) → m ≤ k → get_or near k 0 ≡ 0
-  pub at_first : Set-of m first (λ k. Has 0 (T k))
-  pub at_last : Set-of m last (λ k. Has 1 (T k))
+  pub at_first : SetOf m first (λ k. Has 0 (T k))
+  pub at_last : SetOf m last (λ k. Has 1 (T k))
 
 pub preparing_none : (N T : ℕ → ℕ) → Preparing N T 0 (replicate 16 0) 0 0
 preparing_none N T =

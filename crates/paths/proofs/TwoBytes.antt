@@ -18,12 +18,12 @@ length_words (low ∷ []) = refl
 length_words (low ∷ (high ∷ bs)) = let r = length_words bs in omega arith
 
 -- The i-th number is made of the two bytes there.
-pub get_d_words : (bs : List ℕ) (i : ℕ) → i < length (words bs) → get_or (words bs) i 0 ≡ get_or bs (2 * i) 0 + get_or bs (2 * i + 1) 0 * 256
+pub get_or_words : (bs : List ℕ) (i : ℕ) → i < length (words bs) → get_or (words bs) i 0 ≡ get_or bs (2 * i) 0 + get_or bs (2 * i + 1) 0 * 256
 unfolding words
-get_d_words [] i h = absurd (omega arith)
-get_d_words (low ∷ []) i h = absurd (omega arith)
-get_d_words (low ∷ (high ∷ bs)) zero h = refl
-get_d_words (low ∷ (high ∷ bs)) (suc i) h = rw (odd_more i, even_more i) (get_d_words bs i (omega arith))
+get_or_words [] i h = absurd (omega arith)
+get_or_words (low ∷ []) i h = absurd (omega arith)
+get_or_words (low ∷ (high ∷ bs)) zero h = refl
+get_or_words (low ∷ (high ∷ bs)) (suc i) h = rw (odd_more i, even_more i) (get_or_words bs i (omega arith))
 
 -- Two bytes written there are one number written.
 pub words_set : (bs : List ℕ) (i low high : ℕ) → words (set (set bs (2 * i) low) (2 * i + 1) high) ≡ set (words bs) i (low + high * 256)

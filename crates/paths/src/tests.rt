@@ -1,12 +1,11 @@
 // Ways on small boards.
 use crate::find_way;
 use hexboard::{Side, Size};
-use std::process::Abort;
 use std::test::Fail;
 
 // The way of a side on a board n wide, over scratch memory that holds anything.
 fn way(
-    rt: &impl Abort,
+    rt: &HostRuntime,
     n: u16,
     side: Side,
     cells: &[u8],

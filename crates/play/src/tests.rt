@@ -3,7 +3,6 @@ use crate::{Closed, Desk, Parts, Reply, Unopened, call, memory_for, open};
 use hexboard::{Side, Size};
 use history::Game;
 use std::alloc::Global;
-use std::process::Abort;
 use std::test::Fail;
 use wire::{Call, Refusal};
 
@@ -28,7 +27,7 @@ fn sizes_out_of_range(rt: HostRuntime) {
 }
 
 // Plays the cells in turn, from the first move of the game.
-fn play(rt: &impl Abort, desk: &mut Desk, cells: &[u16]) {
+fn play(rt: &HostRuntime, desk: &mut Desk, cells: &[u16]) {
     let mut number = 0;
     for cell in cells {
         assert_eq!(rt; desk.serve(Call::Move(*cell)), Reply::Number(number));
@@ -53,7 +52,7 @@ fn each_side_can_win(rt: HostRuntime) -> Result<(), Fail> {
 }
 
 // Whether a move is refused for this reason, with all that the desk keeps as it was.
-fn move_refused(rt: &impl Abort, desk: &mut Desk, cell: u16, why: Refusal) -> Result<(), Fail> {
+fn move_refused(rt: &HostRuntime, desk: &mut Desk, cell: u16, why: Refusal) -> Result<(), Fail> {
     let stones = desk.stones.clone()?;
     let log = desk.log.clone()?;
     let parents = desk.parents.clone()?;
@@ -94,7 +93,7 @@ static LONG: [u16; 14] = [0, 21, 1, 22, 2, 23, 3, 24, 4, 25, 5, 26, 6, 27];
 static OTHER: [u16; 13] = [0, 6, 7, 13, 14, 20, 21, 27, 28, 34, 35, 41, 42];
 
 // After every move but the last nobody has connected, and then this side has, by a way of seven cells.
-fn play_to_the_end(rt: &impl Abort, desk: &mut Desk, cells: &[u16], winner: Side) {
+fn play_to_the_end(rt: &HostRuntime, desk: &mut Desk, cells: &[u16], winner: Side) {
     let mut left = cells.len();
     for cell in cells {
         assert_eq!(rt; desk.serve(Call::Who), Reply::Number(0));
@@ -105,7 +104,7 @@ fn play_to_the_end(rt: &impl Abort, desk: &mut Desk, cells: &[u16], winner: Side
     assert_eq!(rt; desk.serve(Call::Who), Reply::Way(winner, 7));
 }
 
-fn take_all_back(rt: &impl Abort, desk: &mut Desk, moves: u16) {
+fn take_all_back(rt: &HostRuntime, desk: &mut Desk, moves: u16) {
     for left in (0..moves).rev() {
         assert_eq!(rt; desk.serve(Call::Back), Reply::Number(left));
         assert_eq!(rt; desk.serve(Call::Who), Reply::Number(0));
@@ -132,7 +131,7 @@ fn a_game_back_to_the_start(rt: HostRuntime) -> Result<(), Fail> {
 }
 
 // What opening in memory of so many bytes is refused for, with the memory as it was.
-fn closed(rt: &impl Abort, n: u16, memory: &mut [u8]) -> Result<Refusal, Fail> {
+fn closed(rt: &HostRuntime, n: u16, memory: &mut [u8]) -> Result<Refusal, Fail> {
     let Err(Closed { why, memory }) = open(n, memory) else {
         return Err(Fail::new("opened"));
     };

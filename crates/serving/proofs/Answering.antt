@@ -1,4 +1,4 @@
--- What the parts of the driver say, put together as what a line is answered by.
+-- What the parts of serving a line say, put together as what a line is answered by.
 use Rattle.std.proofs.Common.{◌≡◌, ℕ, Bool, List, ◌++◌, IfOk, Ok, Err, vec_items, codes, decimal, Result, ⊎_elim, append_assoc}
 use Rattle.hexboard.specs.Games as games
 use Rattle.wire.specs.Formal.{asked}

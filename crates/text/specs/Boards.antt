@@ -47,12 +47,12 @@ board_lines n cells way = each n (row_line n cells way)
 -- In the line of row r the cell of column c is the character at place r + 2 * c, and nothing stands behind the last cell but the
 -- line's end. So the cell to the right of a cell stands two characters on, the cell below it one on, and that below and to the left
 -- one back: cells next to each other on the board are next to each other in the text.
-pub record Laid_out (n : ℕ) (cells way : List ℕ) (r : ℕ) : Type 0 where
+pub record LaidOut (n : ℕ) (cells way : List ℕ) (r : ℕ) : Type 0 where
   pub long : length (row_line n cells way r) ≡ r + 2 * n
   pub places : (c : ℕ) → c < n → slice_index (row_line n cells way r) (r + 2 * c) ≡ slice_index (mark (slice_index cells (r * n + c)) (among way (r * n + c))) 0
 
 abbrev pub RowsLaidOut : Type 0
-RowsLaidOut = (n : ℕ) (cells way : List ℕ) (r : ℕ) → 0 < n → Laid_out n cells way r
+RowsLaidOut = (n : ℕ) (cells way : List ℕ) (r : ℕ) → 0 < n → LaidOut n cells way r
 
 -- the line that says who has won, without its end
 abbrev pub outcome_line : Option Side → List ℕ

@@ -1,4 +1,4 @@
-use Rattle.std.proofs.Common.{ap, ◌∙◌, arith}
+use Rattle.std.proofs.Common.{refl, ap, ◌∙◌, arith}
 use Rattle.hexboard.specs.Board.{all_cells}
 use Rattle.hexboard.proofs.Boards.{all_cells_replicate}
 use Rattle.history.specs.Holds.{lent}
@@ -8,10 +8,9 @@ use Rattle.history.proofs.moves.start.Goals as goal
 pub returns : goal.returns
 returns c =
     let long = c.requires in
-    let game = c.new.ensures in
-    let held = new_held c.args.size.n c.new.result (lent c.clear.new.cells c.fill.new.self c.clear-2.new.parents c.clear-2.new.borders)
-    (ap (λ s. s.n) game.size) game.count game.nobody
+    let held = new_held c.args.size.n _ (lent c.clear.new.cells c.fill.new.self c.clear-2.new.parents c.clear-2.new.borders)
+    refl refl refl
     (c.clear.ensures.after ∙ ap all_cells long.stones)
     (c.fill.ensures.after (λ y e. e) ∙ (all_cells_replicate _ ∙ ap all_cells long.log))
     (c.clear-2.ensures long.parents long.borders) (omega (arith, c.clear-2.auto.parents, long.parents)) in
-    record { holds = held.0; new = held.1; size = game.size; fresh = (game.count, game.nobody) }
+    record { holds = held.0; new = held.1; size = refl; fresh = (refl, refl) }
