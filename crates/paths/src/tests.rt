@@ -4,22 +4,16 @@ use hexboard::{Side, Size};
 use std::test::Fail;
 
 // The way of a side on a board n wide, over scratch memory that holds anything.
-fn way(
-    rt: &HostRuntime,
-    n: u16,
-    side: Side,
-    cells: &[u8],
-    out: &mut [u8],
-) -> Result<Option<u16>, Fail> {
+fn way(n: u16, side: Side, cells: &[u8], out: &mut [u8]) -> Result<Option<u16>, Fail> {
     let Some(size) = Size::new(n) else {
         return Err(Fail::new("no such size"));
     };
     let all = size.cells() as usize;
     let mut queue = [7; 98];
     let mut from = [9; 98];
-    assert!(rt; cells.len() == all);
-    assert!(rt; all <= 49);
-    assert!(rt; out.len() == 98);
+    if cells.len() != all || all > 49 || out.len() != 98 {
+        return Err(Fail::new("the board or its room is of another size"));
+    }
     Ok(find_way(
         size,
         side,
@@ -33,9 +27,9 @@ fn way(
 #[test]
 fn one_cell_is_a_way(rt: HostRuntime) -> Result<(), Fail> {
     let mut out = [5; 98];
-    assert_eq!(rt; way(&rt, 1, Side::Two, &[1], &mut out)?, None);
+    assert_eq!(rt; way(1, Side::Two, &[1], &mut out)?, None);
     assert_eq!(rt; out[0], 5);
-    assert_eq!(rt; way(&rt, 1, Side::Two, &[2], &mut out)?, Some(1));
+    assert_eq!(rt; way(1, Side::Two, &[2], &mut out)?, Some(1));
     assert_eq!(rt; [out[0], out[1], out[2]], [0, 0, 5]);
     Ok(())
 }
@@ -43,8 +37,8 @@ fn one_cell_is_a_way(rt: HostRuntime) -> Result<(), Fail> {
 #[test]
 fn two_by_two(rt: HostRuntime) -> Result<(), Fail> {
     let mut out = [5; 98];
-    assert_eq!(rt; way(&rt, 2, Side::One, &[1, 2, 2, 1], &mut out)?, None);
-    assert_eq!(rt; way(&rt, 2, Side::Two, &[1, 2, 2, 1], &mut out)?, Some(2));
+    assert_eq!(rt; way(2, Side::One, &[1, 2, 2, 1], &mut out)?, None);
+    assert_eq!(rt; way(2, Side::Two, &[1, 2, 2, 1], &mut out)?, Some(2));
     assert_eq!(rt; [out[0], out[1], out[2], out[3], out[4]], [2, 0, 1, 0, 5]);
     Ok(())
 }
@@ -54,7 +48,7 @@ fn two_by_two(rt: HostRuntime) -> Result<(), Fail> {
 fn passes_a_blind_arm(rt: HostRuntime) -> Result<(), Fail> {
     let cells = [0, 1, 0, 0, 1, 1, 2, 1, 2];
     let mut out = [5; 98];
-    assert_eq!(rt; way(&rt, 3, Side::One, &cells, &mut out)?, Some(3));
+    assert_eq!(rt; way(3, Side::One, &cells, &mut out)?, Some(3));
     assert_eq!(rt; [out[0], out[2], out[4], out[6]], [1, 4, 7, 5]);
     Ok(())
 }
@@ -63,8 +57,8 @@ fn passes_a_blind_arm(rt: HostRuntime) -> Result<(), Fail> {
 fn nobody_has_connected(rt: HostRuntime) -> Result<(), Fail> {
     let cells = [1, 2, 0, 1, 0, 2, 2, 1, 0];
     let mut out = [5; 98];
-    assert_eq!(rt; way(&rt, 3, Side::One, &cells, &mut out)?, None);
-    assert_eq!(rt; way(&rt, 3, Side::Two, &cells, &mut out)?, None);
+    assert_eq!(rt; way(3, Side::One, &cells, &mut out)?, None);
+    assert_eq!(rt; way(3, Side::Two, &cells, &mut out)?, None);
     assert_eq!(rt; out[0], 5);
     Ok(())
 }
@@ -82,7 +76,7 @@ fn follows_a_snake(rt: HostRuntime) -> Result<(), Fail> {
         0, 0, 0, 0, 0, 0, 1, //
     ];
     let mut out = [5; 98];
-    assert_eq!(rt; way(&rt, 7, Side::One, &cells, &mut out)?, Some(23));
+    assert_eq!(rt; way(7, Side::One, &cells, &mut out)?, Some(23));
     assert_eq!(rt;
         [out[0], out[2], out[18], out[44], out[46]],
         [0, 7, 26, 48, 5]

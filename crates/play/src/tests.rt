@@ -6,6 +6,15 @@ use std::alloc::Global;
 use std::test::Fail;
 use wire::{Call, Refusal};
 
+// Fails the test unless this is so.
+fn check(holds: bool) -> Result<(), Fail> {
+    if holds {
+        Ok(())
+    } else {
+        Err(Fail::new("not as it should be"))
+    }
+}
+
 fn opened(heap: Global, n: u16) -> Result<Desk, Fail> {
     let Ok(desk) = Desk::open(heap, n) else {
         return Err(Fail::new("not opened"));
@@ -27,18 +36,19 @@ fn sizes_out_of_range(rt: HostRuntime) {
 }
 
 // Plays the cells in turn, from the first move of the game.
-fn play(rt: &HostRuntime, desk: &mut Desk, cells: &[u16]) {
+fn play(desk: &mut Desk, cells: &[u16]) -> Result<(), Fail> {
     let mut number = 0;
     for cell in cells {
-        assert_eq!(rt; desk.serve(Call::Move(*cell)), Reply::Number(number));
+        check(desk.serve(Call::Move(*cell)) == Reply::Number(number))?;
         number = u16::wrapping_add(number, 1);
     }
+    Ok(())
 }
 
 #[test]
 fn each_side_can_win(rt: HostRuntime) -> Result<(), Fail> {
     let mut desk = opened(rt.alloc(), 3)?;
-    play(&rt, &mut desk, &[4, 0, 8, 2, 6, 3, 5]);
+    play(&mut desk, &[4, 0, 8, 2, 6, 3, 5])?;
     assert_eq!(rt; desk.serve(Call::Who), Reply::Number(0));
     assert_eq!(rt; desk.serve(Call::CanForce), Reply::Yes(2));
     assert_eq!(rt; desk.serve(Call::Move(1)), Reply::Number(7));
@@ -52,20 +62,20 @@ fn each_side_can_win(rt: HostRuntime) -> Result<(), Fail> {
 }
 
 // Whether a move is refused for this reason, with all that the desk keeps as it was.
-fn move_refused(rt: &HostRuntime, desk: &mut Desk, cell: u16, why: Refusal) -> Result<(), Fail> {
+fn move_refused(desk: &mut Desk, cell: u16, why: Refusal) -> Result<(), Fail> {
     let stones = desk.stones.clone()?;
     let log = desk.log.clone()?;
     let parents = desk.parents.clone()?;
     let borders = desk.borders.clone()?;
     let scratch = desk.scratch.clone()?;
     let count = desk.game.count();
-    assert_eq!(rt; desk.serve(Call::Move(cell)), Reply::Refused(why));
-    assert_eq!(rt; desk.stones.as_slice(), stones.as_slice());
-    assert_eq!(rt; desk.log.as_slice(), log.as_slice());
-    assert_eq!(rt; desk.parents.as_slice(), parents.as_slice());
-    assert_eq!(rt; desk.borders.as_slice(), borders.as_slice());
-    assert_eq!(rt; desk.scratch.as_slice(), scratch.as_slice());
-    assert_eq!(rt; desk.game.count(), count);
+    check(desk.serve(Call::Move(cell)) == Reply::Refused(why))?;
+    check(desk.stones.as_slice() == stones.as_slice())?;
+    check(desk.log.as_slice() == log.as_slice())?;
+    check(desk.parents.as_slice() == parents.as_slice())?;
+    check(desk.borders.as_slice() == borders.as_slice())?;
+    check(desk.scratch.as_slice() == scratch.as_slice())?;
+    check(desk.game.count() == count)?;
     Ok(())
 }
 
@@ -75,15 +85,15 @@ fn the_first_reason_is_told(rt: HostRuntime) -> Result<(), Fail> {
     let heap = rt.alloc();
     let mut desk = opened(heap, 3)?;
     assert_eq!(rt; desk.serve(Call::Back), Reply::Refused(Refusal::NoMove));
-    move_refused(&rt, &mut desk, 9, Refusal::NoCell)?;
-    play(&rt, &mut desk, &[4]);
-    move_refused(&rt, &mut desk, 4, Refusal::Taken)?;
-    move_refused(&rt, &mut desk, 9, Refusal::NoCell)?;
+    move_refused(&mut desk, 9, Refusal::NoCell)?;
+    play(&mut desk, &[4])?;
+    move_refused(&mut desk, 4, Refusal::Taken)?;
+    move_refused(&mut desk, 9, Refusal::NoCell)?;
     let mut over = opened(heap, 3)?;
-    play(&rt, &mut over, &[4, 0, 1, 2, 6]);
-    move_refused(&rt, &mut over, 3, Refusal::Over)?;
-    move_refused(&rt, &mut over, 4, Refusal::Over)?;
-    move_refused(&rt, &mut over, 9, Refusal::NoCell)
+    play(&mut over, &[4, 0, 1, 2, 6])?;
+    move_refused(&mut over, 3, Refusal::Over)?;
+    move_refused(&mut over, 4, Refusal::Over)?;
+    move_refused(&mut over, 9, Refusal::NoCell)
 }
 
 // A game of 14 moves on 7 by 7 that side 2 wins by its last, along the fourth row.
@@ -93,23 +103,25 @@ static LONG: [u16; 14] = [0, 21, 1, 22, 2, 23, 3, 24, 4, 25, 5, 26, 6, 27];
 static OTHER: [u16; 13] = [0, 6, 7, 13, 14, 20, 21, 27, 28, 34, 35, 41, 42];
 
 // After every move but the last nobody has connected, and then this side has, by a way of seven cells.
-fn play_to_the_end(rt: &HostRuntime, desk: &mut Desk, cells: &[u16], winner: Side) {
+fn play_to_the_end(desk: &mut Desk, cells: &[u16], winner: Side) -> Result<(), Fail> {
     let mut left = cells.len();
     for cell in cells {
-        assert_eq!(rt; desk.serve(Call::Who), Reply::Number(0));
-        assert!(rt; matches!(desk.serve(Call::Move(*cell)), Reply::Number(_)));
+        check(desk.serve(Call::Who) == Reply::Number(0))?;
+        check(matches!(desk.serve(Call::Move(*cell)), Reply::Number(_)))?;
         left = left.saturating_sub(1);
     }
-    assert_eq!(rt; left, 0);
-    assert_eq!(rt; desk.serve(Call::Who), Reply::Way(winner, 7));
+    check(left == 0)?;
+    check(desk.serve(Call::Who) == Reply::Way(winner, 7))?;
+    Ok(())
 }
 
-fn take_all_back(rt: &HostRuntime, desk: &mut Desk, moves: u16) {
+fn take_all_back(desk: &mut Desk, moves: u16) -> Result<(), Fail> {
     for left in (0..moves).rev() {
-        assert_eq!(rt; desk.serve(Call::Back), Reply::Number(left));
-        assert_eq!(rt; desk.serve(Call::Who), Reply::Number(0));
+        check(desk.serve(Call::Back) == Reply::Number(left))?;
+        check(desk.serve(Call::Who) == Reply::Number(0))?;
     }
-    assert_eq!(rt; desk.serve(Call::Back), Reply::Refused(Refusal::NoMove));
+    check(desk.serve(Call::Back) == Reply::Refused(Refusal::NoMove))?;
+    Ok(())
 }
 
 // A whole game is taken back move by move, and played otherwise; every byte that is kept is what it was.
@@ -120,23 +132,23 @@ fn a_game_back_to_the_start(rt: HostRuntime) -> Result<(), Fail> {
     let log = desk.log.clone()?;
     let parents = desk.parents.clone()?;
     let borders = desk.borders.clone()?;
-    play_to_the_end(&rt, &mut desk, &LONG, Side::Two);
-    take_all_back(&rt, &mut desk, 14);
+    play_to_the_end(&mut desk, &LONG, Side::Two)?;
+    take_all_back(&mut desk, 14)?;
     assert_eq!(rt; desk.stones.as_slice(), stones.as_slice());
     assert_eq!(rt; desk.log.as_slice(), log.as_slice());
     assert_eq!(rt; desk.parents.as_slice(), parents.as_slice());
     assert_eq!(rt; desk.borders.as_slice(), borders.as_slice());
-    play_to_the_end(&rt, &mut desk, &OTHER, Side::One);
+    play_to_the_end(&mut desk, &OTHER, Side::One)?;
     Ok(())
 }
 
 // What opening in memory of so many bytes is refused for, with the memory as it was.
-fn closed(rt: &HostRuntime, n: u16, memory: &mut [u8]) -> Result<Refusal, Fail> {
+fn closed(n: u16, memory: &mut [u8]) -> Result<Refusal, Fail> {
     let Err(Closed { why, memory }) = open(n, memory) else {
         return Err(Fail::new("opened"));
     };
-    assert!(rt; memory.iter().copied().min() == Some(7));
-    assert!(rt; memory.iter().copied().max() == Some(7));
+    check(memory.iter().copied().min() == Some(7))?;
+    check(memory.iter().copied().max() == Some(7))?;
     Ok(why)
 }
 
@@ -147,9 +159,9 @@ fn memory_too_small(rt: HostRuntime) -> Result<(), Fail> {
     };
     assert_eq!(rt; memory_for(size), 1566);
     let mut memory = [7; 1565];
-    assert_eq!(rt; closed(&rt, 0, &mut memory)?, Refusal::BadSize);
-    assert_eq!(rt; closed(&rt, 20, &mut memory)?, Refusal::BadSize);
-    assert_eq!(rt; closed(&rt, 3, &mut memory)?, Refusal::SmallMemory);
+    assert_eq!(rt; closed(0, &mut memory)?, Refusal::BadSize);
+    assert_eq!(rt; closed(20, &mut memory)?, Refusal::BadSize);
+    assert_eq!(rt; closed(3, &mut memory)?, Refusal::SmallMemory);
     Ok(())
 }
 
