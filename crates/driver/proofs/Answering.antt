@@ -4,7 +4,7 @@ use Rattle.std.proofs.lemmas.List.{take_all}
 use Rattle.std.proofs.str.Laws.{order}
 use Rattle.hexboard.specs.Games as games
 use Rattle.wire.specs.declared.call.Call.{Call}
-use Rattle.text.specs.Answers.{line_of}
+use Rattle.wire.specs.Answers.{line_of}
 use Rattle.text.specs.Lines.{Asks, Says}
 use Rattle.text.specs.declared.reading.Line.TheVariants as line
 use Rattle.driver.specs.Served.{Reopened, Called, Next}

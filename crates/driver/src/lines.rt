@@ -1,7 +1,7 @@
 // One line in, one line out.
 ghost use Rattle.std.specs.Prelude.{◌≡◌, ℕ, ◌<◌, ◌≤◌, List, ◌++◌, IfOk, string_bytes, codes, decimal, OnOk};
 ghost use Rattle.wire.specs.Formal.{asked, told as answered};
-ghost use Rattle.text.specs.Answers.{line_of};
+ghost use Rattle.wire.specs.Answers.{line_of};
 ghost use Rattle.session.specs.Desks.{desk_game, told};
 ghost use Rattle.hexboard.specs.Games as games;
 ghost use Rattle.text.specs.Lines.{Asks};

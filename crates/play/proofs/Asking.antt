@@ -6,7 +6,7 @@ use Rattle.hexboard.specs.Board.{Connects}
 use Rattle.hexboard.specs.Geometry.{laid}
 use Rattle.hexboard.specs.Games as games
 use Rattle.hexboard.specs.Sides.{number}
-use Rattle.wire.specs.Numbers.{words}
+use Rattle.hexboard.specs.Words.{words}
 use Rattle.hexboard.specs.declared.side.Side.{Side}
 use Rattle.paths.specs.Words as paths
 use Rattle.paths.specs.Ways.{Written}

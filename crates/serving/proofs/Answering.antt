@@ -7,7 +7,7 @@ use Rattle.play.specs.Replies.{replied}
 use Rattle.play.specs.declared.desk.Desk.{Desk}
 use Rattle.play.specs.declared.reply.Reply.{Reply}
 use Rattle.wire.specs.declared.call.Call.{Call}
-use Rattle.text.specs.Answers.{line_of}
+use Rattle.wire.specs.Answers.{line_of}
 use Rattle.text.specs.Lines.{Asks, Says}
 use Rattle.text.specs.declared.reading.Line.TheVariants as line
 use Rattle.serving.specs.Served.{Reopened, Called, Next}

@@ -5,7 +5,7 @@ use Rattle.hexboard.specs.Geometry.{laid}
 use Rattle.hexboard.specs.Games as games
 use Rattle.hexboard.specs.Sides.{number}
 use Rattle.hexboard.specs.declared.side.Side.{Side}
-use Rattle.wire.specs.Numbers as wire
+use Rattle.hexboard.specs.Words as wire
 use Rattle.paths.specs.Words as paths
 use Rattle.paths.specs.Ways.{Answered, Written}
 use Rattle.groups.proofs.Positions.{board_cells}

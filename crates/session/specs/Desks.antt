@@ -3,7 +3,8 @@ use Rattle.std.specs.Prelude.{◌≡◌, ℕ, ◌*◌, ◌<◌, ◌≤◌, List,
 use Rattle.hexboard.specs.Games as games
 use Rattle.hexboard.specs.Sides.{number}
 use Rattle.hexboard.specs.declared.side.Side.{Side}
-use Rattle.wire.specs.Numbers.{reason, words}
+use Rattle.hexboard.specs.Words.{words}
+use Rattle.wire.specs.Numbers.{reason}
 use Rattle.wire.specs.declared.refusal.Refusal.{Refusal}
 use Rattle.wire.specs.declared.refusal.Refusal.TheVariants as refusal
 use Rattle.history.specs.Holds.{Memory, lent, formal}

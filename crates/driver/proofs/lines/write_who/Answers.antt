@@ -1,7 +1,7 @@
 use Rattle.std.proofs.Common.{ℕ, List, subst}
 use Rattle.hexboard.specs.Games as games
 use Rattle.hexboard.specs.Sides.{number}
-use Rattle.wire.specs.Numbers.{words}
+use Rattle.hexboard.specs.Words.{words}
 use Rattle.session.specs.Desks.{desk_game}
 use Rattle.driver.proofs.Answering.{front_of}
 use Rattle.driver.proofs.lines.write_who.Goals as goal

@@ -1,7 +1,7 @@
 use Rattle.std.proofs.Common.{ℕ, ◌*◌, List, length, take, vec_items, sym, ap, ◌∙◌, subst, arith}
 use Rattle.hexboard.specs.Games as games
 use Rattle.hexboard.specs.Sides.{number}
-use Rattle.wire.specs.Numbers.{words}
+use Rattle.hexboard.specs.Words.{words}
 use Rattle.history.specs.Holds.{won_by, formal, Holds}
 use Rattle.history.proofs.Serving.{right_nobody, winner_connects}
 use Rattle.session.specs.Desks.{memory_of}
