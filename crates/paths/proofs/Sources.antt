@@ -2,7 +2,7 @@
 use Rattle.std.proofs.Common.{◌≡◌, ℕ, ◌+◌, ◌<◌, true, false, ◌&&◌, List, [], ◌∷◌, length, set, replicate, refl, inl, arith, below_more}
 use Rattle.std.proofs.lemmas.Bool.{false≢true, and_parts, and_from, both_ways}
 use Rattle.paths.specs.Ways.{Ground, crosses}
-use Rattle.paths.specs.Search.{Reached, Tree, Unmet, Ahead, Met}
+use Rattle.paths.specs.Search.{Reached, Tree, Unmet, Met}
 use Rattle.paths.proofs.Trees.{none_reached, tree_none, Comes, stays, reaches, each_reached, tree_more}
 
 -- the depth of every place at the start
