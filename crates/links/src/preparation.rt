@@ -60,7 +60,7 @@ impl Grouped<'_> {
             let Some((stone, root)) = self.beside(cell, direction) else {
                 continue;
             };
-            if stone == side.number() {
+            if stone == u8::from(side) {
                 enter(sets, root, k);
             }
         }
@@ -79,7 +79,7 @@ impl Grouped<'_> {
             let Some((stone, root)) = self.beside(cell, direction) else {
                 continue;
             };
-            if stone != side.opponent().number() {
+            if stone != u8::from(side.opponent()) {
                 all.near |= read(sets, root);
                 all.borders |= groups::touched(self.borders, root);
             }

@@ -12,7 +12,8 @@ use hexboard::{Side, Size};
 use links::Grouped;
 use ranking::{Ranking, lowest, one};
 
-// Yes, by a move to this cell; no; or that too many cells are empty to look through the end.
+// Yes, by a move to this cell; no; or that too many cells are empty to look through the end. None of the three is an error or the
+// lack of an answer, so this is no Result and no Option.
 #[derive(Clone, Copy, PartialEq, Eq, Debug)]
 pub enum Verdict {
     Yes(u16),
