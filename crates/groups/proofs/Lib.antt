@@ -1,4 +1,3 @@
-pub mod Bytes
 pub mod Climbs
 pub mod Chains
 pub mod Marks

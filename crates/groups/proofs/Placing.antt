@@ -18,15 +18,26 @@ Touching near b i j = (t : ℕ) × (t ≢ 0) × Stone b t i × Stone b t j × (n
 abbrev pub Grouped : (ℕ → ℕ → Bool) → (ℕ → ℕ → ℕ) → Board → Forest → Type 0
 Grouped near bits b f = Groups near bits b (Touching near b) f
 
--- No neighbour has been looked at, or one more.
+-- No neighbour has been looked at.
 pub adopt_none : (b : Board) (s x : ℕ) (next : ℕ → Option ℕ) (f : Forest) → f ≡ adopt b s x next 0 f
 unfolding adopt
 adopt_none b s x next f = refl
 
-pub adopt_more : (b : Board) (s x : ℕ) (next : ℕ → Option ℕ) (k : ℕ) (f h new : Forest) →
-    h ≡ adopt b s x next k f → new ≡ take_in b s x (next k) h → new ≡ adopt b s x next (k + 1) f
-unfolding adopt
-adopt_more b s x next k f h new e t = rw add-one (t ∙ ap (take_in b s x (next k)) e)
+-- The first k have been looked at, and one more is: there is none, it is a stone of side s, or it is not.
+module _ (b : Board) (s x : ℕ) (next : ℕ → Option ℕ) (k : ℕ) (f h : Forest) (so_far : h ≡ adopt b s x next k f) where
+  adopt_more : (o : Option ℕ) (new : Forest) → next k ≡ o → new ≡ take_in b s x o h → new ≡ adopt b s x next (k + 1) f
+  unfolding adopt
+  adopt_more o new e t = rw (add-one, e) (t ∙ ap (take_in b s x o) so_far)
+
+  pub adopt_end : next k ≡ None → h ≡ adopt b s x next (k + 1) f
+  adopt_end e = adopt_more None h e refl
+
+  pub adopt_stone : (y r : ℕ) (new : Forest) → next k ≡ Some y → at b y ≡ s → r ≡ root h.parents y → new ≡ join r x h → new ≡ adopt b s x next (k + 1) f
+  adopt_stone y r new e is up t =
+      adopt_more (Some y) new e (t ∙ ap (λ q. join q x h) up ∙ ap (λ c. pick c (join (root h.parents y) x h) h) (sym (eq-eqb (at b y) s is)))
+
+  pub adopt_other : (y : ℕ) → next k ≡ Some y → (at b y ≡ s → ⊥) → h ≡ adopt b s x next (k + 1) f
+  adopt_other y e isnt = adopt_more (Some y) h e (ap (λ c. pick c (join (root h.parents y) x h) h) (sym (ne_eqb (at b y) s isnt)))
 
 -- Only what lies next to x is looked at: boards that are the same there are the same to it.
 pub adopt_alike : (b c : Board) (s x : ℕ) (next : ℕ → Option ℕ) → ((k y : ℕ) → next k ≡ Some y → at b y ≡ at c y) →

@@ -8,7 +8,7 @@ use Rattle.groups.specs.Forest.{Forest, held, root, place, lift}
 use Rattle.groups.specs.Moves.{Position, start, moved, is_free, position_of, board_of, turn_of, forest_of, Legal, HeldAround}
 use Rattle.groups.specs.Meaning.{JustIf, Both, Together, Joined, Open, OneByteDecides, BackAgain, KeptOnce}
 use Rattle.groups.specs.Meaning.{OneMore, OneFewer, TellsRows, TellsWinner}
-use Rattle.groups.proofs.Bytes.{same_bytes}
+use Rattle.hexboard.proofs.TwoBytes.{same_bytes}
 use Rattle.groups.proofs.Spanning.{same_root, spans, byte_decides, other_as_before}
 use Rattle.groups.proofs.Ways.{connects}
 use Rattle.groups.proofs.Positions.{Sound, no_empty, other_side, of_both, free_parts, moved_top, moved_sound, moved_back}

@@ -1,4 +1,3 @@
-pub mod Words
 pub mod Forest
 pub mod Moves
 pub mod Meaning

@@ -3,7 +3,7 @@ ghost use Rattle.std.specs.Prelude.{◌≡◌, ℕ, ◌*◌, ◌%◌, ◌^◌, �
 ghost use Rattle.hexboard.specs.Board.{pick};
 ghost use Rattle.hexboard.specs.Geometry.{neighbour_of, touch, laid};
 ghost use Rattle.hexboard.specs.Sides.{number};
-ghost use Rattle.groups.specs.Words.{words};
+ghost use Rattle.hexboard.specs.Words.{words};
 ghost use Rattle.links.specs.Cells.{listed};
 ghost use Rattle.links.specs.Gathering.{enter, entered_at, entered_all, gathered, joined_at, by_root, near_at, borders_at};
 ghost use Rattle.links.specs.Prepared.{Prepared};

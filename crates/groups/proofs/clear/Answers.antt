@@ -1,5 +1,7 @@
-use Rattle.std.proofs.Common.{◌+◌, sym, ◌∙◌, subst₂, arith}
-use Rattle.groups.specs.Words.{words}
+use Rattle.std.proofs.Common.{sym, ap, ◌∙◌, ◌+◌, subst, arith}
+use Rattle.hexboard.specs.Board.{all_cells}
+use Rattle.hexboard.specs.Words.{words}
+use Rattle.hexboard.proofs.Boards.{all_cells_replicate}
 use Rattle.groups.proofs.Clearing.{Cleared, cleared_more, cleared_kept}
 use Rattle.groups.proofs.clear.Goals as goal
 
@@ -8,9 +10,9 @@ loop-each-init c i l = absurd (omega arith)
 
 pub loop-each-preserved : goal.loop-each-preserved
 loop-each-preserved c =
-    subst₂ (Cleared (c.loop-each.each + 1)) (sym c.hang.ensures) (sym c.write.ensures)
-    (cleared_more c.loop-each.each (words c.loop-each.parents) c.loop-each.borders c.loop-each.invariant)
+    subst (Cleared (c.loop-each.each + 1)) (sym c.set_word.ensures.after) (cleared_more c.loop-each.each (words c.loop-each.parents) c.loop-each.invariant)
 
 pub returns : goal.returns
-returns c lp lb =
-    cleared_kept c.args.size.n c.loop-each.each c.loop-each.parents c.loop-each.borders (c.loop-each.auto.parents ∙ lp) (c.loop-each.auto.borders ∙ lb) (omega arith) c.loop-each.invariant
+returns c long many =
+    cleared_kept c.args.size.n c.loop-each.each c.loop-each.parents _ (c.loop-each.auto.parents ∙ long)
+    (c.fill.ensures.after (λ y e. e) ∙ all_cells_replicate _ ∙ ap all_cells many) (omega arith) c.loop-each.invariant

@@ -1,6 +1,5 @@
-use Rattle.std.proofs.Common.{◌≡◌, ◌*◌, sym, ap, ◌∙◌, arith}
-use Rattle.groups.specs.Words.{words}
-use Rattle.groups.specs.Forest.{held, free, lift}
+use Rattle.std.proofs.Common.{sym, ap, ◌∙◌, arith}
+use Rattle.hexboard.specs.Words.{words}
 use Rattle.groups.proofs.Lifting.{free_none, free_hit, free_miss}
 use Rattle.groups.proofs.Theorems.{memory_back}
 use Rattle.groups.proofs.lift.Goals as goal
@@ -12,15 +11,10 @@ loop-below-init c = free_none c.args.cell (words c.args.parents.now)
 pub loop-below-preserved : goal.loop-below-preserved
 loop-below-preserved c =
     elim c.if-parent-cell.branch [
-      | then-parent-cell w ↦ ap words w.parents-is ∙ free_hit c.args.cell c.loop-below.below (words c.args.parents.now) (words c.loop-below.parents) _ c.loop-below.invariant (sym c.parent.ensures ∙ w.if-parent-cell.true) w.hang.ensures
+      | then-parent-cell w ↦ ap words w.parents-is ∙ free_hit c.args.cell c.loop-below.below (words c.args.parents.now) (words c.loop-below.parents) _ c.loop-below.invariant (sym c.parent.ensures ∙ w.if-parent-cell.true) w.set_word.ensures.after
       | else-parent-cell w ↦ ap words w.parents-is ∙ free_miss c.args.cell c.loop-below.below (words c.args.parents.now) (words c.loop-below.parents) c.loop-below.invariant (λ e. w.if-parent-cell.false (c.parent.ensures ∙ e))
     ]
 
-pub returns : goal.returns
-returns c = record { value = value; back = memory_back c.args.size.n c.args.cell c.args.parents.now c.args.borders.now c.loop-below.parents c.write.new.bytes value }
-  where
-    cells : c.loop-below.below ≡ c.args.size.n * c.args.size.n
-    cells = omega (arith, c.cells-below-end.ensures.value)
-
-    value : held c.loop-below.parents c.write.new.bytes ≡ lift (c.args.size.n * c.args.size.n) c.args.cell (held c.args.parents.now c.args.borders.now)
-    value = λ i. record { parents = (c.loop-below.invariant ∙ ap (λ k. free c.args.cell k (words c.args.parents.now)) cells) i; borders = c.write.ensures i }
+pub returns-clause-back : goal.returns-clause-back
+returns-clause-back c =
+    memory_back c.args.size.n c.args.cell c.args.parents.now c.args.borders.now c.loop-below.parents c.write.new.borders (grind arith)

@@ -1,5 +1,5 @@
 use Rattle.std.proofs.Common.{◌≡◌}
-use Rattle.groups.specs.Words.{words}
+use Rattle.hexboard.specs.Words.{words}
 use Rattle.groups.specs.Forest.{free}
 use Rattle.groups.proofs.lift.Given as goal
 

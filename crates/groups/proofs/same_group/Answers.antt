@@ -1,5 +1,5 @@
 use Rattle.std.proofs.Common.{◌≡◌, eqb, ap₂}
-use Rattle.groups.specs.Words.{words}
+use Rattle.hexboard.specs.Words.{words}
 use Rattle.groups.specs.Forest.{root}
 use Rattle.groups.proofs.Theorems.{same_root_tells}
 use Rattle.groups.proofs.same_group.Goals as goal

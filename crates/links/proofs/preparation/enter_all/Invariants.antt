@@ -1,7 +1,7 @@
 use Rattle.std.proofs.Common.{◌≡◌}
 use Rattle.hexboard.specs.Geometry.{neighbour_of, laid}
 use Rattle.hexboard.specs.Sides.{number}
-use Rattle.groups.specs.Words.{words}
+use Rattle.hexboard.specs.Words.{words}
 use Rattle.links.specs.Gathering.{over, entered_at}
 use Rattle.links.proofs.preparation.enter_all.Given as goal
 

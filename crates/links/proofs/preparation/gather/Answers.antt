@@ -1,7 +1,7 @@
 use Rattle.std.proofs.Common.{◌≡◌, refl, ap, ◌∙◌, arith}
 use Rattle.hexboard.specs.Geometry.{laid}
 use Rattle.hexboard.specs.Sides.{number}
-use Rattle.groups.specs.Words.{words}
+use Rattle.hexboard.specs.Words.{words}
 use Rattle.links.specs.Cells.{listed}
 use Rattle.links.specs.Gathering.{gathered}
 use Rattle.links.proofs.Gathered.{gathered_none, gathered_more}

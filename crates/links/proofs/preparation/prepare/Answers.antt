@@ -2,7 +2,7 @@ use Rattle.std.proofs.Common.{◌≡◌, length, get_or, sym, ap, ◌∙◌, sub
 use Rattle.std.proofs.lemmas.List.{get_or-take, length-take-le}
 use Rattle.hexboard.specs.Geometry.{laid}
 use Rattle.hexboard.specs.Sides.{number}
-use Rattle.groups.specs.Words.{words}
+use Rattle.hexboard.specs.Words.{words}
 use Rattle.links.specs.Cells.{listed}
 use Rattle.links.specs.Gathering.{gathered, near_at, borders_at}
 use Rattle.links.proofs.Preparing.{Preparing, preparing_none, preparing_more, prepared, side_number}

@@ -1,7 +1,7 @@
 use Rattle.std.proofs.Common.{get_or}
 use Rattle.hexboard.specs.Geometry.{laid}
 use Rattle.hexboard.specs.Sides.{number}
-use Rattle.groups.specs.Words.{words}
+use Rattle.hexboard.specs.Words.{words}
 use Rattle.links.specs.Cells.{listed}
 use Rattle.links.specs.Gathering.{near_at, borders_at}
 use Rattle.links.proofs.Preparing.{Preparing}
