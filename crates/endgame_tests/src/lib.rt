@@ -3,6 +3,7 @@
 
 #[cfg(test)]
 mod tests {
+    use groups::Groups;
     use hexboard::{Side, Size};
     use std::alloc::{AllocError, Global};
     use std::test::Fail;
@@ -20,11 +21,11 @@ mod tests {
         if stones.len() != size.cells() as usize || table.len() < table_bytes(size) {
             return None;
         }
-        groups::clear(size, parents, borders);
+        Groups { parents, borders }.clear(size);
         let mut side = Side::One;
         for cell in moves {
             let _ = hexboard::place(stones, side, *cell);
-            groups::place(size, stones, side, *cell, parents, borders);
+            Groups { parents, borders }.place(size, stones, side, *cell);
             side = side.opponent();
         }
         Some(can_force(size, side, stones, parents, borders, table))

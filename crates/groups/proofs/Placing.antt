@@ -8,7 +8,7 @@ use Rattle.groups.specs.Forest.{Forest, parent, root, join, take_in, adopt, alon
 use Rattle.groups.proofs.Chains.{last_own, carried}
 use Rattle.groups.proofs.Climbs.{Rooted, climb_root}
 use Rattle.groups.proofs.Marks.{Has}
-use Rattle.groups.proofs.Groups.{Groups, now_met, join_meets}
+use Rattle.groups.proofs.Joining.{Groups, now_met, join_meets}
 
 -- stones of one side stand on cells i and j, which are near each other
 abbrev pub Touching : (ℕ → ℕ → Bool) → Board → ℕ → ℕ → Type 0

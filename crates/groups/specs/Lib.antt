@@ -1,3 +1,4 @@
 pub mod Forest
 pub mod Moves
 pub mod Meaning
+pub mod Lent

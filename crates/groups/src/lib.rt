@@ -6,60 +6,73 @@ ghost use Rattle.hexboard.specs.Geometry.{laid};
 ghost use Rattle.hexboard.specs.Sides.{number};
 ghost use Rattle.hexboard.specs.Words.{words};
 ghost use Rattle.groups.specs.Forest.{held, parent, root, join, place, lift};
-ghost use Rattle.groups.specs.Moves.{Kept};
+ghost use Rattle.groups.specs.Moves.{forest_of};
+ghost use Rattle.groups.specs.Lent.{before, after};
 ghost use Rattle.groups.specs.Meaning.{Together, Joined, OneByteDecides, BackAgain, KeptOnce};
 ghost use Rattle.groups.specs.Meaning.{OneMore, OneFewer, TellsRows, TellsWinner};
 
 use hexboard::{Side, Size};
 
-// Each stone has a parent in its group, a later stone, or is the group's root: its last stone, which is its own parent. `parents` holds
-// two bytes for each cell, low byte first. `borders` holds a byte for each cell, whose bits at a root say which borders the group
-// touches: 1 for the first, 2 for the last. `cells` holds the stones: 0, 1 or 2.
-
-// Makes the memory that of a board without stones.
-pub fn clear(size: Size, parents: &mut [u8], borders: &mut [u8])
-    ensures { length parents.old ≡ size.n * size.n * 2 → length borders.old ≡ size.n * size.n → Kept size.n [] parents.new borders.new }
-{
-    borders.fill(0);
-    for each in 0..size.cells() {
-        hexboard::set_word(parents, each, each);
-    }
+// The groups of a board in lent memory. Each stone has a parent in its group, a later stone, or is the group's root: its last stone,
+// which is its own parent. `parents` holds two bytes for each cell, low byte first. `borders` holds a byte for each cell, whose bits
+// at a root say which borders the group touches: 1 for the first, 2 for the last.
+pub struct Groups<'a> {
+    pub parents: &'a mut [u8],
+    pub borders: &'a mut [u8],
 }
 
-// A stone of the side to move comes to an empty cell, and takes in the groups next to it. `cells` may hold the stone already or not.
-pub fn place(
-    size: Size,
-    cells: &[u8],
-    side: Side,
-    cell: u16,
-    parents: &mut [u8],
-    borders: &mut [u8],
-)
-    ensures value { held parents.new borders.new ≡ place (laid size.n cells.now) (number side) cell (held parents.old borders.old) }
-    ensures grows { OneMore size.n cells.now (number side) cell parents.old borders.old parents.new borders.new }
-{
-    write(borders, cell, hexboard::borders(size, side, cell));
-    for k in 0..hexboard::directions() {
-        let Some(near) = hexboard::neighbour(size, cell, k) else {
-            continue;
-        };
-        if hexboard::stone(cells, near) == Some(side) {
-            let top = root(parents, near);
-            join(top, cell, parents, borders);
+impl Groups<'_> {
+    // Makes the memory that of a board without stones.
+    pub fn clear(self, size: Size)
+        ensures { length self.entry.parents.now ≡ size.n * size.n * 2 → length self.entry.borders.now ≡ size.n * size.n → after self.exit ≡ forest_of size.n [] }
+    {
+        let Groups { parents, borders } = self;
+        borders.fill(0);
+        for each in 0..size.cells() {
+            hexboard::set_word(parents, each, each);
         }
     }
-}
 
-// The last stone is taken out: the groups that it took in are apart again, and every byte is as it was before it came.
-pub fn lift(size: Size, cell: u16, parents: &mut [u8], borders: &mut [u8])
-    ensures value { held parents.new borders.new ≡ lift (size.n * size.n) cell (held parents.old borders.old) }
-    ensures back { OneFewer size.n cell parents.old borders.old parents.new borders.new }
-{
-    write(borders, cell, 0);
-    for below in 0..size.cells() {
-        if parent(parents, below) == cell {
-            hexboard::set_word(parents, below, below);
+    // A stone of the side to move comes to an empty cell, and takes in the groups next to it. `cells` may hold the stone already or not.
+    pub fn place(self, size: Size, cells: &[u8], side: Side, cell: u16)
+        ensures value { after self.exit ≡ place (laid size.n cells.now) (number side) cell (before self.entry) }
+        ensures grows { OneMore size.n cells.now (number side) cell (before self.entry) (after self.exit) }
+    {
+        let Groups { parents, borders } = self;
+        write(borders, cell, hexboard::borders(size, side, cell));
+        for k in 0..hexboard::directions() {
+            let Some(near) = hexboard::neighbour(size, cell, k) else {
+                continue;
+            };
+            if hexboard::stone(cells, near) == Some(side) {
+                let top = root(parents, near);
+                Groups { parents, borders }.join(top, cell);
+            }
         }
+    }
+
+    // The last stone is taken out: the groups that it took in are apart again, and every byte is as it was before it came.
+    pub fn lift(self, size: Size, cell: u16)
+        ensures value { after self.exit ≡ lift (size.n * size.n) cell (before self.entry) }
+        ensures back { OneFewer size.n cell (before self.entry) (after self.exit) }
+    {
+        let Groups { parents, borders } = self;
+        write(borders, cell, 0);
+        for below in 0..size.cells() {
+            if parent(parents, below) == cell {
+                hexboard::set_word(parents, below, below);
+            }
+        }
+    }
+
+    // The group of a root hangs from a cell now, which touches what either touched.
+    fn join(self, top: u16, cell: u16)
+        ensures { after self.exit ≡ join top cell (before self.entry) }
+    {
+        let Groups { parents, borders } = self;
+        let bits = touched(borders, cell) | touched(borders, top);
+        write(borders, cell, bits);
+        hexboard::set_word(parents, top, cell);
     }
 }
 
@@ -112,15 +125,6 @@ pub fn groups_have_meaning()
     ensures told { KeptOnce }
 {}
 
-// The group of a root hangs from a cell now, which touches what either touched.
-fn join(top: u16, cell: u16, parents: &mut [u8], borders: &mut [u8])
-    ensures { held parents.new borders.new ≡ join top cell (held parents.old borders.old) }
-{
-    let bits = touched(borders, cell) | touched(borders, top);
-    write(borders, cell, bits);
-    hexboard::set_word(parents, top, cell);
-}
-
 // The parent of a cell. A cell that is not there is its own.
 fn parent(parents: &[u8], cell: u16) -> u16
     ensures { result ≡ parent (words parents.now) cell }
@@ -160,7 +164,11 @@ mod tests {
             let size = Size::new(3).unwrap();
             let mut parents = [7; 18];
             let mut borders = [7; 9];
-            clear(size, &mut parents, &mut borders);
+            Groups {
+                parents: &mut parents,
+                borders: &mut borders,
+            }
+            .clear(size);
             Board {
                 size,
                 cells: [0; 9],
@@ -172,14 +180,11 @@ mod tests {
         // A stone comes to the board and to its groups.
         fn play(&mut self, side: Side, cell: u16) -> Result<(), Unplaced> {
             hexboard::place(&mut self.cells, side, cell)?;
-            place(
-                self.size,
-                &self.cells,
-                side,
-                cell,
-                &mut self.parents,
-                &mut self.borders,
-            );
+            Groups {
+                parents: &mut self.parents,
+                borders: &mut self.borders,
+            }
+            .place(self.size, &self.cells, side, cell);
             Ok(())
         }
     }
@@ -207,7 +212,11 @@ mod tests {
                 && !same_group(&board.parents, 0, 8)
         );
         assert!(rt; touches_both(&board.borders, 4));
-        lift(board.size, 4, &mut board.parents, &mut board.borders);
+        Groups {
+            parents: &mut board.parents,
+            borders: &mut board.borders,
+        }
+        .lift(board.size, 4);
         assert_eq!(rt; board.parents, parents_before);
         assert_eq!(rt; board.borders, borders_before);
         Ok(())

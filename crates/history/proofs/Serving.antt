@@ -1,5 +1,6 @@
 -- Each answer to a move and to a take-back is the right one by the rules.
-use Rattle.std.proofs.Common.{◌≡◌, ℕ, ◌+◌, ◌*◌, ◌%◌, ◌<◌, ◌≤◌, true, eqb, ◌≢◌, ◌⊎◌, List, [], ◌∷◌, ◌++◌, length, get_or, take, set, sym, ap, ◌∙◌, subst, ⊎_elim, arith}
+use Rattle.std.proofs.Common.{◌≡◌, ℕ, ◌+◌, ◌*◌, ◌%◌, ◌<◌, ◌≤◌, Bool, true, false, eqb, ◌≢◌, ◌⊎◌, List, [], ◌∷◌, ◌++◌, length, get_or, take, set, sym, refl, ap, ◌∙◌, subst, ⊎_elim, arith}
+use Rattle.std.specs.Bool.{then_some}
 use Rattle.std.proofs.lemmas.List.{length_push, take_more_set}
 use Rattle.std.proofs.lemmas.Bool.Decides.{nat_tests}
 use Rattle.hexboard.specs.Board.{pick, at, is_way, Connects}
@@ -24,6 +25,11 @@ use Rattle.history.proofs.Turns.{game_push, winner_open, winner_won, winner_push
 pub some_side : (side : Side) → number side ≢ 0
 some_side One = omega arith
 some_side Two = omega arith
+
+-- a side that has won by a test
+pub won_then : (t : Bool) (side : Side) → won_by (then_some t side) ≡ pick t (number side) 0
+won_then true side = refl
+won_then false side = refl
 
 -- where nobody has connected nobody has won
 pub not_won : (g : games.Game) → Open g.board → games.Won g → ⊥

@@ -1,4 +1,4 @@
-use Rattle.std.proofs.Common.{◌≡◌, ◌+◌, [], ◌∷◌, ◌++◌, take, set, sym, refl, ap, ◌∙◌, subst, arith}
+use Rattle.std.proofs.Common.{rules, ◌≡◌, ◌+◌, [], ◌∷◌, ◌++◌, take, set, sym, refl, ap, ◌∙◌, subst, arith}
 use Rattle.hexboard.specs.Words.{words}
 use Rattle.groups.specs.Moves.{forest_of, Legal}
 use Rattle.history.specs.Holds.{lent}
@@ -29,4 +29,4 @@ returns c =
     (c.lift.ensures.back ks
     (subst (λ x. Legal c.args.game.size.n (ks ++ (x ∷ []))) (sym is) (legal_now c.args.game m c.requires last one))
     (groups_now c.args.game m c.requires last one ∙ ap (λ x. forest_of c.args.game.size.n (ks ++ (x ∷ []))) (sym is)))
-    (omega (arith, c.lift.auto.parents))
+    (search rules)

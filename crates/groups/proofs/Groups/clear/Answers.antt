@@ -3,7 +3,7 @@ use Rattle.hexboard.specs.Board.{all_cells}
 use Rattle.hexboard.specs.Words.{words}
 use Rattle.hexboard.proofs.Boards.{all_cells_replicate}
 use Rattle.groups.proofs.Clearing.{Cleared, cleared_more, cleared_kept}
-use Rattle.groups.proofs.clear.Goals as goal
+use Rattle.groups.proofs.Groups.clear.Goals as goal
 
 pub loop-each-init : goal.loop-each-init
 loop-each-init c i l = absurd (omega arith)

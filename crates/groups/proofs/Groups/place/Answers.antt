@@ -5,10 +5,11 @@ use Rattle.hexboard.specs.declared.side.Side.{Side}
 use Rattle.hexboard.specs.declared.side.Side.TheVariants.{One, Two}
 use Rattle.hexboard.proofs.Pairs.{stone_number}
 use Rattle.groups.specs.Forest.{held}
+use Rattle.groups.specs.Lent.{before}
 use Rattle.groups.proofs.Placing.{adopt_none, adopt_end, adopt_stone, adopt_other}
 use Rattle.groups.proofs.Theorems.{memory_grows}
-use Rattle.groups.proofs.place.Goals as goal
-use Rattle.groups.proofs.place.Goals.{then-eq, else-eq}
+use Rattle.groups.proofs.Groups.place.Goals as goal
+use Rattle.groups.proofs.Groups.place.Goals.{then-eq, else-eq}
 
 pub loop-k-init : goal.loop-k-init
 loop-k-init c = adopt_none _ _ _ _ _
@@ -39,4 +40,4 @@ loop-k-preserved c =
 
 pub returns-clause-grows : goal.returns-clause-grows
 returns-clause-grows c =
-    memory_grows c.args.size.n c.args.cells.now (number c.args.side) c.args.cell c.args.parents.now c.args.borders.now c.loop-k.parents c.loop-k.borders (grind arith)
+    memory_grows c.args.size.n c.args.cells.now (number c.args.side) c.args.cell (before c.args.self) (held c.loop-k.parents c.loop-k.borders) (grind arith)

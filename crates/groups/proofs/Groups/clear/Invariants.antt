@@ -1,6 +1,6 @@
 use Rattle.hexboard.specs.Words.{words}
 use Rattle.groups.proofs.Clearing.{Cleared}
-use Rattle.groups.proofs.clear.Given as goal
+use Rattle.groups.proofs.Groups.clear.Given as goal
 
 -- the cells before this one are their own parents
 abbrev pub invariant-loop-each : goal.invariant-loop-each
