@@ -29,7 +29,7 @@ impl Groups<'_> {
         let Groups { parents, borders } = self;
         borders.fill(0);
         for each in 0..size.cells() {
-            hexboard::set_word(parents, each, each);
+            let _ = hexboard::set_word(parents, each, each);
         }
     }
 
@@ -60,7 +60,7 @@ impl Groups<'_> {
         write(borders, cell, 0);
         for below in 0..size.cells() {
             if parent(parents, below) == cell {
-                hexboard::set_word(parents, below, below);
+                let _ = hexboard::set_word(parents, below, below);
             }
         }
     }
@@ -72,7 +72,7 @@ impl Groups<'_> {
         let Groups { parents, borders } = self;
         let bits = touched(borders, cell) | touched(borders, top);
         write(borders, cell, bits);
-        hexboard::set_word(parents, top, cell);
+        let _ = hexboard::set_word(parents, top, cell);
     }
 }
 
@@ -113,7 +113,7 @@ pub fn touches_both(borders: &[u8], cell: u16) -> bool
 pub fn touched(borders: &[u8], group: u16) -> u8
     ensures { result ≡ slice_index borders.now group }
 {
-    borders.get(group as usize).copied().unwrap_or(0)
+    borders.get(usize::from(group)).copied().unwrap_or(0)
 }
 
 // What groups mean, for every legal list of moves. There is nothing to run.
@@ -137,7 +137,7 @@ fn write(borders: &mut [u8], cell: u16, bits: u8)
     ensures { borders.new ≡ slice_set borders.old cell bits }
 {
     // By its index: after `get_mut` a proof knows how long a slice is, and not what it holds.
-    let at = cell as usize;
+    let at = usize::from(cell);
     if at < borders.len() {
         borders[at] = bits;
     }

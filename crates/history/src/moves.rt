@@ -22,7 +22,7 @@ pub fn make_move(
     requires { Holds game (lent stones.old log.old parents.old borders.old) }
     ensures { Settled game (lent stones.old log.old parents.old borders.old) (games.moves cell) (λ _. game.count) (lent stones.new log.new parents.new borders.new) result }
 {
-    let Some(&standing) = stones.get(cell as usize) else {
+    let Some(&standing) = stones.get(usize::from(cell)) else {
         return Err(Refusal::NoCell);
     };
     let None = game.winner else {
@@ -33,8 +33,8 @@ pub fn make_move(
     };
     let side = game.turn();
     Groups { parents, borders }.place(game.size, stones, side, cell);
-    stones[cell as usize] = side.number();
-    hexboard::set_word(log, game.count, cell);
+    stones[usize::from(cell)] = u8::from(side);
+    let _ = hexboard::set_word(log, game.count, cell);
     // Each field by name: `..game` is not covered for a struct with a ghost field.
     Ok(Game {
         size: game.size,
@@ -59,8 +59,8 @@ pub fn take_back(
     };
     let cell = hexboard::word(log, last).unwrap();
     Groups { parents, borders }.lift(game.size, cell);
-    stones[cell as usize] = 0;
-    hexboard::set_word(log, last, 0);
+    stones[usize::from(cell)] = 0;
+    let _ = hexboard::set_word(log, last, 0);
     Ok(Game {
         size: game.size,
         count: last,

@@ -42,6 +42,6 @@ returns c =
     let m = lent c.args.stones.now c.args.log.now c.args.parents.now c.args.borders.now in
     let turn = c.turn-side.ensures ∙ sym (mover c.args.game m c.requires c.args.cell) in
     served_made c.args.game m c.requires c.args.cell _ _ refl refl on (ap won_by c.in-None.is) bare
-    (ap (set c.args.stones.now c.args.cell) (c.number.ensures ∙ turn)) c.set_word.ensures.after (omega (arith, c.set_word.auto.bytes))
+    (λ i. set c.args.stones.now (c.from-3.ensures i) ((c.from-2.ensures ∙ turn) i)) c.set_word.ensures.after (omega (arith, c.set_word.auto.bytes))
     (c.place.ensures.grows _ (inl c.requires.kept.stones_are) turn c.requires.kept.groups_are) (search rules)
     (ap won_by c.then_some.ensures ∙ won_then _ _ ∙ (λ i. pick (c.touches_both.ensures.value i) (turn i) 0))
