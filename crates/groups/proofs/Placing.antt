@@ -2,6 +2,7 @@
 use Rattle.std.proofs.Common.{◌≡◌, ℕ, zero, suc, ◌+◌, ◌<◌, Bool, true, eqb, ◌≢◌, ◌⊎◌, List, length, get_or, set, Some, None, Option, sym, refl, ap, ◌∙◌, subst, subst₂, inl, inr, ⊎_elim, add-one, arith}
 use Rattle.std.proofs.lemmas.List.{length-set, get_or-set_same, get_or-set_other, get_or_past}
 use Rattle.std.proofs.lemmas.Bool.{cases_eq, cases_lt, eq-eqb, ne_eqb}
+use Rattle.std.proofs.lemmas.Option.{none-some}
 use Rattle.hexboard.specs.Board.{pick, Board, at, put}
 use Rattle.hexboard.specs.Rows.{Chain, here, Stone}
 use Rattle.groups.specs.Forest.{Forest, parent, root, join, take_in, adopt, alone}
@@ -50,12 +51,9 @@ adopt_alike b c s x next same (suc m) f = look (next m) refl ∙ ap (take_in c s
     look None e = refl
     look (Some y) e = ap (λ v. pick (eqb v s) (join (root (adopt b s x next m f).parents y) x (adopt b s x next m f)) (adopt b s x next m f)) (same m y e)
 
--- What an option holds it holds once, and nothing is not something.
+-- What an option holds it holds once.
 some_once : {i j : ℕ} → Some i ≡ Some j → i ≡ j
 some_once e = cc
-
-none_some : {j : ℕ} → None ≡ Some j → ⊥
-none_some {j} h = let z : ◌≡◌ {A = ℕ} 0 1 = cc in omega arith
 
 -- Only cells of the board hold stones.
 pub stone_here : (b : Board) (s y : ℕ) → s ≢ 0 → at b y ≡ s → Stone b s y
@@ -176,7 +174,7 @@ module _ (b : Board) (s x : ℕ) (side : s ≢ 0) (on : x < length b.cells) (fre
               (cases_eq k m)
 
       one_more : (m : ℕ) (h : Forest) (o : Option ℕ) → next m ≡ o → Growing m h → Growing (suc m) (take_in b s x o h)
-      one_more m h None e w = nothing_new m h (λ y q _. none_some (sym e ∙ q)) w
+      one_more m h None e w = nothing_new m h (λ y q _. none-some y (sym e ∙ q)) w
       one_more m h (Some y) e w =
           ⊎_elim
           (λ is. subst (λ t. Growing (suc m) (pick t (join (root h.parents y) x h) h)) (sym (eq-eqb (at b y) s is)) (one_met m y h e (stone_here b s y side is) w))

@@ -14,10 +14,11 @@ use Rattle.hexboard.proofs.TwoBytes.{words_length}
 use Rattle.groups.specs.Forest.{held}
 use Rattle.groups.specs.Moves.{is_free, board_of, turn_of, forest_of}
 use Rattle.groups.specs.Meaning.{Open}
+use Rattle.groups.proofs.Positions.{board_laid}
 use Rattle.history.specs.Played.{game_of, Played, winner_of, Kept}
 use Rattle.history.specs.Holds.{won_by, Memory, moves_in, formal, Holds, Served}
 use Rattle.history.specs.declared.game.Game.{Game}
-use Rattle.history.proofs.Filling.{room, turn_by_count, board_laid}
+use Rattle.history.proofs.Filling.{room, turn_by_count}
 use Rattle.history.proofs.Keeping.{played_more, kept_more}
 use Rattle.history.proofs.Turns.{game_push, winner_open, winner_won, winner_push}
 

@@ -5,9 +5,6 @@ use Rattle.hexboard.proofs.Boards.{all_cells_replicate}
 use Rattle.groups.proofs.Clearing.{Cleared, cleared_more, cleared_kept}
 use Rattle.groups.proofs.Groups.clear.Goals as goal
 
-pub loop-each-init : goal.loop-each-init
-loop-each-init c i l = absurd (omega arith)
-
 pub loop-each-preserved : goal.loop-each-preserved
 loop-each-preserved c =
     subst (Cleared (c.loop-each.each + 1)) (sym c.set_word.ensures.after) (cleared_more c.loop-each.each (words c.loop-each.parents) c.loop-each.invariant)
