@@ -1,9 +1,10 @@
 -- The empty cells gathered by what they touch: steps as the code takes them, and what is in the sets.
-use Rattle.std.proofs.Common.{◌≡◌, ℕ, zero, suc, ◌+◌, ◌*◌, ◌^◌, ◌<◌, Bool, true, false, eqb, ◌≢◌, ◌⊎◌, List, length, get_or, take, replicate, Some, None, Option, sym, refl, ap, ◌∙◌, subst, inl, inr, ⊎_elim, add-one, arith}
+use Rattle.std.proofs.Common.{◌≡◌, ℕ, zero, suc, ◌+◌, ◌*◌, ◌^◌, ◌<◌, Bool, true, false, eqb, ◌≢◌, ◌⊎◌, List, length, get_or, replicate, Some, None, Option, sym, refl, ap, ap₂, ◌∙◌, subst, inl, inr, ⊎_elim, add-one, arith}
 use lib.Bits.{bit_or}
-use Rattle.std.proofs.lemmas.List.{length-set, length-replicate, get_or-set_same, get_or-set_other, get_or-take, set_past}
+use Rattle.std.specs.Option.{option_map}
+use Rattle.std.proofs.lemmas.List.{length-set, length-replicate, get_or-set_same, get_or-set_other, set_past}
 use Rattle.std.proofs.lemmas.Bool.{cases_eq, cases_lt, eqb-true, eq-eqb}
-use Rattle.hexboard.specs.Board.{pick, Board, at, next_to}
+use Rattle.hexboard.specs.Board.{pick, Board, at, other, next_to}
 use Rattle.hexboard.specs.Geometry.{neighbour_of}
 use Rattle.hexboard.specs.Rows.{Stone}
 use Rattle.hexboard.proofs.Neighbours.{neighbour_next, neighbour_all}
@@ -11,14 +12,14 @@ use Rattle.groups.specs.Forest.{root}
 use Rattle.groups.proofs.Placing.{stone_here}
 use Rattle.ranking.specs.Sets.{bit}
 use Rattle.ranking.proofs.Bits.{bit_none, bit_one, in_or, or_left, or_right}
-use Rattle.links.specs.Gathering.{over, enter, entered_at, entered_all, gathered}
+use Rattle.links.specs.Gathering.{over, enter, entered_at, entered_all, gathered, joined_at}
 
 -- Nothing has been looked at, or one more.
 pub over_none : {S : Type 0} (look : Option ℕ → S → S) (next : ℕ → Option ℕ) (s : S) → s ≡ over look next 0 s
 unfolding over
 over_none look next s = refl
 
-pub over_more : {S : Type 0} (look : Option ℕ → S → S) (next : ℕ → Option ℕ) (m : ℕ) (s now new : S) → now ≡ over look next m s →
+over_more : {S : Type 0} (look : Option ℕ → S → S) (next : ℕ → Option ℕ) (m : ℕ) (s now new : S) → now ≡ over look next m s →
     new ≡ look (next m) now → new ≡ over look next (m + 1) s
 unfolding over
 over_more look next m s now new e t = rw add-one (t ∙ ap (look (next m)) e)
@@ -27,12 +28,48 @@ pub gathered_none : (b : Board) (w : ℕ) (ps es : List ℕ) → replicate 361 0
 unfolding gathered
 gathered_none b w ps es = refl
 
--- the cells es are the first of a longer list
-pub gathered_more : (b : Board) (w : ℕ) (ps cells : List ℕ) (count m : ℕ) (now new : List ℕ) → m < count → now ≡ gathered b w ps (take count cells) m →
-    new ≡ entered_all b w ps m (get_or cells m 0) now → new ≡ gathered b w ps (take count cells) (m + 1)
+-- one more cell has been gathered
+pub gathered_more : (b : Board) (w : ℕ) (ps es : List ℕ) (m cell : ℕ) (now new : List ℕ) → now ≡ gathered b w ps es m →
+    cell ≡ get_or es m 0 → new ≡ entered_all b w ps m cell now → new ≡ gathered b w ps es (m + 1)
 unfolding gathered
-gathered_more b w ps cells count m now new l e t =
-    rw add-one (t ∙ ap (λ i. entered_all b w ps m i now) (sym (get_or-take count cells m 0 l)) ∙ ap (entered_all b w ps m (get_or (take count cells) m 0)) e)
+gathered_more b w ps es m cell now new e is t = rw add-one (t ∙ ap₂ (entered_all b w ps m) is e)
+
+-- What is done with what lies next to a cell, which is a stone or none and the root of its group.
+abbrev pub entered_by : ℕ → ℕ → Option (ℕ × ℕ) → List ℕ → List ℕ
+entered_by w k None sets = sets
+entered_by w k (Some (stone, r)) sets = pick (eqb stone w) (enter k r sets) sets
+
+abbrev pub joined_by : ℕ → (ℕ → ℕ) → Option (ℕ × ℕ) → ℕ → ℕ
+joined_by w f None x = x
+joined_by w f (Some (stone, r)) x = pick (eqb stone (other w)) x (bit_or x (f r))
+
+module _ (b : Board) (w : ℕ) (ps : List ℕ) where
+  -- what stands there, and its root
+  abbrev pub found : Option ℕ → Option (ℕ × ℕ)
+  found o = option_map (λ p. (at b p, root ps p)) o
+
+  -- So one more is looked at.
+  looked_more : {S : Type 0} (look : Option ℕ → S → S) (by : Option (ℕ × ℕ) → S → S) → ((o : Option ℕ) (s : S) → by (found o) s ≡ look o s) →
+      (i m : ℕ) (near : Option (ℕ × ℕ)) (s now new : S) → now ≡ over look (neighbour_of b.wide i) m s → near ≡ found (neighbour_of b.wide i m) →
+      new ≡ by near now → new ≡ over look (neighbour_of b.wide i) (m + 1) s
+  looked_more look by same i m near s now new so_far e t =
+      over_more look (neighbour_of b.wide i) m s now new so_far (t ∙ ap (λ n. by n now) e ∙ same (neighbour_of b.wide i m) now)
+
+  pub entered_more : (k i m : ℕ) (near : Option (ℕ × ℕ)) (s now new : List ℕ) → now ≡ over (entered_at b w ps k) (neighbour_of b.wide i) m s →
+      near ≡ found (neighbour_of b.wide i m) → new ≡ entered_by w k near now → new ≡ over (entered_at b w ps k) (neighbour_of b.wide i) (m + 1) s
+  entered_more k = looked_more (entered_at b w ps k) (entered_by w k) same
+    where
+      same : (o : Option ℕ) (sets : List ℕ) → entered_by w k (found o) sets ≡ entered_at b w ps k o sets
+      same None sets = refl
+      same (Some p) sets = refl
+
+  pub joined_more : (f : ℕ → ℕ) (i m : ℕ) (near : Option (ℕ × ℕ)) (s now new : ℕ) → now ≡ over (joined_at b w ps f) (neighbour_of b.wide i) m s →
+      near ≡ found (neighbour_of b.wide i m) → new ≡ joined_by w f near now → new ≡ over (joined_at b w ps f) (neighbour_of b.wide i) (m + 1) s
+  joined_more f = looked_more (joined_at b w ps f) (joined_by w f) same
+    where
+      same : (o : Option ℕ) (x : ℕ) → joined_by w f (found o) x ≡ joined_at b w ps f o x
+      same None x = refl
+      same (Some p) x = refl
 
 -- p is one of the first m that lie next to a cell
 abbrev pub Among : (ℕ → Option ℕ) → ℕ → ℕ → Type 0
@@ -67,6 +104,13 @@ module _ {S : Type 0} (look : Option ℕ → S → S) (next : ℕ → Option ℕ
       (λ apart. keeps (next m) _ (over_new keeps m s (d, omega arith, e) brings))
       (cases_eq d m)
 
+-- k is in the set of k alone, and nothing else is
+pub own_bit : (k : ℕ) → bit k (2 ^ k) ≡ 1
+own_bit k = ⊎_elim (λ p. p.1) (λ p. absurd (p.0 refl)) (bit_one k k)
+
+pub only_bit : (k j : ℕ) → bit j (2 ^ k) ≡ 1 → j ≡ k
+only_bit k j h = ⊎_elim (λ p. p.0) (λ p. absurd (omega (arith, p.1))) (bit_one k j)
+
 -- Once k has come into the set at place r, that at place q is as it was, or q is r and it has k too.
 entered : (k r : ℕ) (sets : List ℕ) (q : ℕ) →
     (get_or (enter k r sets) q 0 ≡ get_or sets q 0) ⊎ ((q ≡ r) × (get_or (enter k r sets) q 0 ≡ bit_or (get_or sets q 0) (2 ^ k)))
@@ -82,8 +126,7 @@ pub enter_only : (k r : ℕ) (sets : List ℕ) (q j : ℕ) → bit j (get_or (en
 enter_only k r sets q j h =
     ⊎_elim
     (λ e. inl (sym (ap (bit j) e) ∙ h))
-    (λ (same, e).
-    ⊎_elim inl (λ new. inr (⊎_elim (λ p. p.0) (λ p. absurd (omega (arith, p.1))) (bit_one k j), same)) (in_or j (get_or sets q 0) (2 ^ k) (sym (ap (bit j) e) ∙ h)))
+    (λ (same, e). ⊎_elim inl (λ new. inr (only_bit k j new, same)) (in_or j (get_or sets q 0) (2 ^ k) (sym (ap (bit j) e) ∙ h)))
     (entered k r sets q)
 
 pub enter_old : (k r : ℕ) (sets : List ℕ) (q j : ℕ) → bit j (get_or sets q 0) ≡ 1 → bit j (get_or (enter k r sets) q 0) ≡ 1
@@ -91,8 +134,7 @@ enter_old k r sets q j h =
     ⊎_elim (λ e. ap (bit j) e ∙ h) (λ (_, e). ap (bit j) e ∙ or_left j (get_or sets q 0) (2 ^ k) h) (entered k r sets q)
 
 pub enter_new : (k r : ℕ) (sets : List ℕ) → r < length sets → bit k (get_or (enter k r sets) r 0) ≡ 1
-enter_new k r sets l =
-    ap (bit k) (get_or-set_same sets r _ 0 l) ∙ or_right k (get_or sets r 0) (2 ^ k) (⊎_elim (λ p. p.1) (λ p. absurd (p.0 refl)) (bit_one k k))
+enter_new k r sets l = ap (bit k) (get_or-set_same sets r _ 0 l) ∙ or_right k (get_or sets r 0) (2 ^ k) (own_bit k)
 
 -- no set has anything at first
 pub nothing : (m q : ℕ) → get_or {A = ℕ} (replicate m 0) q 0 ≡ 0
@@ -139,11 +181,17 @@ module _ (b : Board) (w : ℕ) (side : w ≢ 0) (ps : List ℕ) where
   at_new : (k p : ℕ) (sets : List ℕ) → at b p ≡ w → root ps p < length sets → bit k (get_or (entered_at b w ps k (Some p) sets) (root ps p) 0) ≡ 1
   at_new k p sets is l = rw (eq-eqb (at b p) w is) (enter_new k (root ps p) sets l)
 
-  pub gathered_long : (es : List ℕ) (m : ℕ) → length (gathered b w ps es m) ≡ 361
+  -- All neighbours of cell i are looked at: the sets are as many, and what was in one stays.
+  all_long : (k i : ℕ) (sets : List ℕ) (m : ℕ) → length sets ≡ 361 → length (over (entered_at b w ps k) (neighbour_of b.wide i) m (enter k i sets)) ≡ 361
+  all_long k i sets m h = over_old (entered_at b w ps k) (neighbour_of b.wide i) (λ s. length s ≡ 361) (at_long k) m _ (length-set sets i _ ∙ h)
+
+  all_old : (k i q j : ℕ) (sets : List ℕ) → bit j (get_or (enter k i sets) q 0) ≡ 1 → bit j (get_or (entered_all b w ps k i sets) q 0) ≡ 1
+  all_old k i q j sets h = over_old (entered_at b w ps k) (neighbour_of b.wide i) (λ s. bit j (get_or s q 0) ≡ 1) (at_old k q j) 6 _ h
+
+  gathered_long : (es : List ℕ) (m : ℕ) → length (gathered b w ps es m) ≡ 361
   unfolding gathered
   gathered_long es zero = length-replicate {A = ℕ} 361 0
-  gathered_long es (suc m) =
-      over_old (entered_at b w ps m) (neighbour_of b.wide (get_or es m 0)) (λ s. length s ≡ 361) (at_long m) 6 _ (length-set (gathered b w ps es m) (get_or es m 0) _ ∙ gathered_long es m)
+  gathered_long es (suc m) = all_long m (get_or es m 0) (gathered b w ps es m) 6 (gathered_long es m)
 
   -- The set at q has those of the cells that are q or lie next to the group of q,
   pub gathered_only : (es : List ℕ) (m q j : ℕ) → bit j (get_or (gathered b w ps es m) q 0) ≡ 1 → (j < m) × Meets b w ps q (get_or es j 0)
@@ -168,20 +216,16 @@ module _ (b : Board) (w : ℕ) (side : w ≢ 0) (ps : List ℕ) where
   gathered_all es square (suc m) q j small l on meets =
       ⊎_elim
       (λ is. subst (λ x. bit x (get_or (gathered b w ps es (suc m)) q 0) ≡ 1) (sym is) (newest q small (subst (λ x. get_or es x 0 < length b.cells) is on) (subst (λ x. Meets b w ps q (get_or es x 0)) is meets)))
-      (λ apart. over_old (entered_at b w ps m) (neighbour_of b.wide (get_or es m 0)) (λ s. bit j (get_or s q 0) ≡ 1) (at_old m q j) 6 _
-      (enter_old m (get_or es m 0) (gathered b w ps es m) q j (gathered_all es square m q j small (omega arith) on meets)))
+      (λ apart. all_old m (get_or es m 0) q j (gathered b w ps es m) (enter_old m (get_or es m 0) (gathered b w ps es m) q j (gathered_all es square m q j small (omega arith) on meets)))
       (cases_eq j m)
     where
-      long : (k : ℕ) → length (over (entered_at b w ps m) (neighbour_of b.wide (get_or es m 0)) k (enter m (get_or es m 0) (gathered b w ps es m))) ≡ 361
-      long k = over_old (entered_at b w ps m) (neighbour_of b.wide (get_or es m 0)) (λ s. length s ≡ 361) (at_long m) k _ (length-set (gathered b w ps es m) (get_or es m 0) _ ∙ gathered_long es m)
-
       newest : (q : ℕ) → q < 361 → get_or es m 0 < length b.cells → Meets b w ps q (get_or es m 0) →
           bit m (get_or (entered_all b w ps m (get_or es m 0) (gathered b w ps es m)) q 0) ≡ 1
       newest q small on (inl is) =
-          over_old (entered_at b w ps m) (neighbour_of b.wide (get_or es m 0)) (λ s. bit m (get_or s q 0) ≡ 1) (at_old m q m) 6 _
+          all_old m (get_or es m 0) q m (gathered b w ps es m)
           (subst (λ x. bit m (get_or (enter m (get_or es m 0) (gathered b w ps es m)) x 0) ≡ 1) is (enter_new m (get_or es m 0) (gathered b w ps es m) (omega (arith, gathered_long es m))))
       newest q small on (inr (p, near, stone, here)) =
-          let (d, l, e) = neighbour_all b.wide (get_or es m 0) p (omega arith) (omega (arith, stone.0)) near in
-          over_new (entered_at b w ps m) (neighbour_of b.wide (get_or es m 0)) (λ s. bit m (get_or s q 0) ≡ 1) (at_old m q m) 6 _ (d, l, e)
+          over_new (entered_at b w ps m) (neighbour_of b.wide (get_or es m 0)) (λ s. bit m (get_or s q 0) ≡ 1) (at_old m q m) 6 _
+          (neighbour_all b.wide (get_or es m 0) p (omega arith) (omega (arith, stone.0)) near)
           (λ k. subst (λ x. bit m (get_or (entered_at b w ps m (Some p) (over (entered_at b w ps m) (neighbour_of b.wide (get_or es m 0)) k (enter m (get_or es m 0) (gathered b w ps es m)))) x 0) ≡ 1) here
-          (at_new m p _ stone.1 (omega (arith, long k))))
+          (at_new m p _ stone.1 (omega (arith, all_long m (get_or es m 0) (gathered b w ps es m) k (gathered_long es m)))))
