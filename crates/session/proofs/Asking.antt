@@ -6,7 +6,7 @@ use Rattle.hexboard.specs.Games as games
 use Rattle.hexboard.specs.Sides.{number}
 use Rattle.hexboard.specs.declared.side.Side.{Side}
 use Rattle.wire.specs.Numbers as wire
-use Rattle.paths.specs.Words as paths
+use Rattle.hexboard.specs.Words as board
 use Rattle.paths.specs.Ways.{Answered, Written}
 use Rattle.groups.proofs.Positions.{board_cells}
 use Rattle.history.specs.Holds.{won_by, Memory, moves_in, formal, Holds}
@@ -14,8 +14,7 @@ use Rattle.history.specs.declared.game.Game.{Game}
 use Rattle.history.proofs.Serving.{winner_connects, right_way}
 
 -- numbers of two bytes are the same for both
-same_words : (bytes : List ℕ) → paths.words bytes ≡ wire.words bytes
-unfolding paths.words
+same_words : (bytes : List ℕ) → board.words bytes ≡ wire.words bytes
 same_words [] = refl
 same_words (low ∷ []) = refl
 same_words (low ∷ (high ∷ bytes)) = ap (λ (ws : List ℕ). (low + high * 256) ∷ ws) (same_words bytes)
