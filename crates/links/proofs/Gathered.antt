@@ -1,9 +1,9 @@
 -- The empty cells gathered by what they touch: steps as the code takes them, and what is in the sets.
-use Rattle.std.proofs.Common.{◌≡◌, ℕ, zero, suc, ◌+◌, ◌*◌, ◌^◌, ◌<◌, Bool, true, false, eqb, ◌≢◌, ◌⊎◌, List, length, get_or, replicate, Some, None, Option, sym, refl, ap, ap₂, ◌∙◌, subst, inl, inr, ⊎_elim, add-one, arith}
+use Rattle.std.proofs.Common.{◌≡◌, ℕ, zero, suc, ◌+◌, ◌*◌, ◌^◌, ◌<◌, true, eqb, ◌≢◌, ◌⊎◌, List, length, get_or, replicate, Some, None, Option, sym, refl, ap, ap₂, ◌∙◌, subst, inl, inr, ⊎_elim, add-one, arith}
 use lib.Bits.{bit_or}
 use Rattle.std.specs.Option.{option_map}
 use Rattle.std.proofs.lemmas.List.{length-set, length-replicate, get_or-set_same, get_or-set_other, set_past}
-use Rattle.std.proofs.lemmas.Bool.{cases_eq, cases_lt, eqb-true, eq-eqb}
+use Rattle.std.proofs.lemmas.Bool.{cases_eq, cases_lt, eq-eqb, ne_eqb}
 use Rattle.hexboard.specs.Board.{pick, Board, at, other, next_to}
 use Rattle.hexboard.specs.Geometry.{neighbour_of}
 use Rattle.hexboard.specs.Rows.{Stone}
@@ -155,28 +155,20 @@ module _ (b : Board) (w : ℕ) (side : w ≢ 0) (ps : List ℕ) where
   at_only : (k q j : ℕ) (o : Option ℕ) (sets : List ℕ) → bit j (get_or (entered_at b w ps k o sets) q 0) ≡ 1 →
       (bit j (get_or sets q 0) ≡ 1) ⊎ ((p : ℕ) × (o ≡ Some p) × ((j ≡ k) × (at b p ≡ w) × (root ps p ≡ q)))
   at_only k q j None sets h = inl h
-  at_only k q j (Some p) sets h = go (eqb (at b p) w) refl h
-    where
-      go : (t : Bool) → eqb (at b p) w ≡ t → bit j (get_or (pick t (enter k (root ps p) sets) sets) q 0) ≡ 1 →
-          (bit j (get_or sets q 0) ≡ 1) ⊎ ((y : ℕ) × (Some p ≡ Some y) × ((j ≡ k) × (at b y ≡ w) × (root ps y ≡ q)))
-      go true e h = ⊎_elim inl (λ (is, here). inr (p, refl, (is, eqb-true (at b p) w e, sym here))) (enter_only k (root ps p) sets q j h)
-      go false e h = inl h
+  at_only k q j (Some p) sets h = ⊎_elim
+      (λ e. ⊎_elim inl (λ (is, here). inr (p, refl, (is, e, sym here))) (enter_only k (root ps p) sets q j (rw (eq-eqb (at b p) w e) at h)))
+      (λ n. inl (rw (ne_eqb (at b p) w n) at h))
+      (cases_eq (at b p) w)
 
   at_old : (k q j : ℕ) (o : Option ℕ) (sets : List ℕ) → bit j (get_or sets q 0) ≡ 1 → bit j (get_or (entered_at b w ps k o sets) q 0) ≡ 1
   at_old k q j None sets h = h
-  at_old k q j (Some p) sets h = go (eqb (at b p) w)
-    where
-      go : (t : Bool) → bit j (get_or (pick t (enter k (root ps p) sets) sets) q 0) ≡ 1
-      go true = enter_old k (root ps p) sets q j h
-      go false = h
+  at_old k q j (Some p) sets h =
+      ⊎_elim (λ e. rw (eq-eqb (at b p) w e) (enter_old k (root ps p) sets q j h)) (λ n. rw (ne_eqb (at b p) w n) h) (cases_eq (at b p) w)
 
   at_long : (k : ℕ) (o : Option ℕ) (sets : List ℕ) → length sets ≡ 361 → length (entered_at b w ps k o sets) ≡ 361
   at_long k None sets h = h
-  at_long k (Some p) sets h = go (eqb (at b p) w)
-    where
-      go : (t : Bool) → length (pick t (enter k (root ps p) sets) sets) ≡ 361
-      go true = length-set sets (root ps p) _ ∙ h
-      go false = h
+  at_long k (Some p) sets h =
+      ⊎_elim (λ e. rw (eq-eqb (at b p) w e) (length-set sets (root ps p) _ ∙ h)) (λ n. rw (ne_eqb (at b p) w n) h) (cases_eq (at b p) w)
 
   at_new : (k p : ℕ) (sets : List ℕ) → at b p ≡ w → root ps p < length sets → bit k (get_or (entered_at b w ps k (Some p) sets) (root ps p) 0) ≡ 1
   at_new k p sets is l = rw (eq-eqb (at b p) w is) (enter_new k (root ps p) sets l)

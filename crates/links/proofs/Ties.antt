@@ -1,9 +1,9 @@
 -- What lies around an empty cell, where the forest holds the groups of the board: the cells it is tied to, and the borders.
-use Rattle.std.proofs.Common.{◌≡◌, ℕ, ◌*◌, ◌/◌, ◌^◌, ◌<◌, ◌≤◌, Bool, true, false, eqb, ◌≢◌, ◌⊎◌, List, length, get_or, Some, None, Decides, Option, sym, refl, ap, ◌∙◌, subst, inl, inr, ⊎_elim, arith}
+use Rattle.std.proofs.Common.{◌≡◌, ℕ, ◌*◌, ◌/◌, ◌^◌, ◌<◌, ◌≤◌, Bool, true, ◌≢◌, ◌⊎◌, List, length, get_or, Some, None, Decides, Option, sym, refl, ap, ◌∙◌, subst, inl, inr, ⊎_elim, arith}
 use native.Mathlib.Nat.{zero-div}
 use lib.Bits.{bit_or}
-use Rattle.std.proofs.lemmas.Bool.{cases_eq, eqb-false, ne_eqb}
-use Rattle.hexboard.specs.Board.{pick, Board, at, other, next_to}
+use Rattle.std.proofs.lemmas.Bool.{cases_eq, eq-eqb, ne_eqb}
+use Rattle.hexboard.specs.Board.{Board, at, other, next_to}
 use Rattle.hexboard.specs.Geometry.{neighbour_of, touch}
 use Rattle.hexboard.specs.Promise.{Good}
 use Rattle.hexboard.specs.Rows.{Stone}
@@ -39,20 +39,17 @@ border_bits t = record { either = has_either t; left = has_left t; right = has_r
 module _ (b : Board) (w : ℕ) (ps : List ℕ) (f : ℕ → ℕ) {In : ℕ → Type 0} (unions : OfUnions In) where
   join_only : (o : Option ℕ) (x : ℕ) → In (joined_at b w ps f o x) → In x ⊎ ((p : ℕ) × (o ≡ Some p) × ((at b p ≢ other w) × In (f (root ps p))))
   join_only None x h = inl h
-  join_only (Some p) x h = go (eqb (at b p) (other w)) refl h
-    where
-      go : (t : Bool) → eqb (at b p) (other w) ≡ t → In (pick t x (bit_or x (f (root ps p)))) →
-          In x ⊎ ((y : ℕ) × (Some p ≡ Some y) × ((at b y ≢ other w) × In (f (root ps y))))
-      go true e h = inl h
-      go false e h = ⊎_elim inl (λ new. inr (p, refl, (eqb-false (at b p) (other w) e, new))) (unions.either x (f (root ps p)) h)
+  join_only (Some p) x h = ⊎_elim
+      (λ e. inl (rw (eq-eqb (at b p) (other w) e) at h))
+      (λ n. ⊎_elim inl (λ new. inr (p, refl, (n, new))) (unions.either x (f (root ps p)) (rw (ne_eqb (at b p) (other w) n) at h)))
+      (cases_eq (at b p) (other w))
 
   join_old : (o : Option ℕ) (x : ℕ) → In x → In (joined_at b w ps f o x)
   join_old None x h = h
-  join_old (Some p) x h = go (eqb (at b p) (other w))
-    where
-      go : (t : Bool) → In (pick t x (bit_or x (f (root ps p))))
-      go true = h
-      go false = unions.left x (f (root ps p)) h
+  join_old (Some p) x h = ⊎_elim
+      (λ e. rw (eq-eqb (at b p) (other w) e) h)
+      (λ n. rw (ne_eqb (at b p) (other w) n) (unions.left x (f (root ps p)) h))
+      (cases_eq (at b p) (other w))
 
   -- Around cell i: what was there at first, and what the roots of the neighbours have that are not of the other side.
   around_only : (i x : ℕ) → In (over (joined_at b w ps f) (neighbour_of b.wide i) 6 x) →
