@@ -4,22 +4,23 @@
 #[cfg(test)]
 mod tests {
     use hexboard::{Side, Size};
+    use links::Grouped;
     use std::alloc::{AllocError, Global};
     use std::test::Fail;
     use verdict::{Verdict, can_force, table_bytes};
 
-    // What is answered after these moves. None if the memory does not fit the board.
-    fn after(
-        size: Size,
-        moves: &[u16],
-        stones: &mut [u8],
-        parents: &mut [u8],
-        borders: &mut [u8],
-        table: &mut [u8],
-    ) -> Option<Verdict> {
-        if stones.len() != size.cells() as usize || table.len() < table_bytes(size) {
+    // What is answered after these moves. None on a board more than 5 wide, or if the table is too short.
+    fn after(size: Size, moves: &[u16], table: &mut [u8]) -> Option<Verdict> {
+        let cells = size.cells() as usize;
+        if cells > 25 || table.len() < table_bytes(size) {
             return None;
         }
+        let mut stones = [0; 25];
+        let mut parents = [0; 50];
+        let mut borders = [0; 25];
+        let stones = &mut stones[..cells];
+        let parents = &mut parents[..2 * cells];
+        let borders = &mut borders[..cells];
         groups::clear(size, parents, borders);
         let mut side = Side::One;
         for cell in moves {
@@ -27,28 +28,19 @@ mod tests {
             groups::place(size, stones, side, *cell, parents, borders);
             side = side.opponent();
         }
-        Some(can_force(size, side, stones, parents, borders, table))
+        let position = Grouped {
+            size,
+            stones,
+            parents,
+            borders,
+        };
+        Some(can_force(&position, side, table))
     }
 
     // The same on a board up to 3 wide, with a table that holds anything.
     fn small(n: u16, moves: &[u16]) -> Option<Verdict> {
-        let size = Size::new(n)?;
-        let cells = size.cells() as usize;
-        if cells > 9 {
-            return None;
-        }
-        let mut stones = [0; 9];
-        let mut parents = [0; 18];
-        let mut borders = [0; 9];
         let mut table = [7; 1512];
-        after(
-            size,
-            moves,
-            &mut stones[..cells],
-            &mut parents[..2 * cells],
-            &mut borders[..cells],
-            &mut table,
-        )
+        after(Size::new(n)?, moves, &mut table)
     }
 
     // The same on a board 5 wide.
@@ -56,19 +48,8 @@ mod tests {
         let Some(size) = Size::new(5) else {
             return Ok(None);
         };
-        let mut stones = [0; 25];
-        let mut parents = [0; 50];
-        let mut borders = [0; 25];
         let mut table = vec![in heap; 7; table_bytes(size)]?;
-        let answer = after(
-            size,
-            moves,
-            &mut stones,
-            &mut parents,
-            &mut borders,
-            &mut table,
-        );
-        Ok(answer)
+        Ok(after(size, moves, &mut table))
     }
 
     // On the empty 3 by 3 board just five cells force: after a move to one of the others the other side can.

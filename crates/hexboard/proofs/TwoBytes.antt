@@ -1,10 +1,10 @@
 -- Numbers of two bytes in memory: how many there are, what is read, and what is written.
-use Rattle.std.proofs.Common.{◌≡◌, ℕ, zero, suc, ◌+◌, ◌*◌, ◌/◌, ◌%◌, ◌<◌, ◌≤◌, true, false, ltb, List, [], ◌∷◌, length, get_or, set, Some, None, sym, refl, ap, ◌∙◌, ⊎_elim, arith}
-use Rattle.std.proofs.lemmas.List.{ext_get_or, set_past}
+use Rattle.std.proofs.Common.{◌≡◌, ℕ, zero, suc, ◌+◌, ◌*◌, ◌/◌, ◌%◌, ◌<◌, ◌≤◌, List, [], ◌∷◌, length, get_or, set, take, drop, replicate, sym, refl, ap, ◌∙◌, ⊎_elim, arith}
+use Rattle.std.proofs.lemmas.List.{ext_get_or, get_or_past, set_past}
+use borrow.Rule.Slice.PartMut.{put_mid}
+use Rattle.std.specs.Simd.{first_chunks}
 use Rattle.std.proofs.lemmas.Bool.{cases_eq}
-use Rattle.std.proofs.lemmas.Bool.Decides.{nat_tests}
-use Rattle.hexboard.specs.Board.{pick}
-use Rattle.hexboard.specs.Words.{words, word_of}
+use Rattle.hexboard.specs.Words.{words}
 
 -- There is a number for each pair of bytes.
 pub words_length : (bs : List ℕ) → length (words bs) ≡ length bs / 2
@@ -34,22 +34,51 @@ word_set (a ∷ []) i low high v l e = absurd (omega arith)
 word_set (a ∷ (b ∷ bs)) zero low high v l e = ap (λ w. w ∷ words bs) (sym e)
 word_set (a ∷ (b ∷ bs)) (suc i) low high v l e = rw (high_on i, low_on i) (ap (λ ws. (a + b * 256) ∷ ws) (word_set bs i low high v (omega arith) e))
 
--- There is a number at a place just if there are its two bytes.
-pub inside : (bs : List ℕ) (i : ℕ) → i * 2 + 1 < length bs → true ≡ ltb i (length (words bs))
-inside bs i l = let long = words_length bs in grind (arith, nat_tests)
+-- Number i stands in pair i of the bytes,
+pub word_paired : (bs : List ℕ) (k i d : ℕ) (none : List ℕ) → i < k → k * 2 ≤ length bs →
+    get_or (words bs) i d ≡ get_or (get_or (first_chunks 2 k bs) i none) 0 0 + get_or (get_or (first_chunks 2 k bs) i none) 1 0 * 256
+word_paired bs zero i d none h l = absurd (omega arith)
+word_paired [] (suc k) i d none h l = absurd (omega arith)
+word_paired (a ∷ []) (suc k) i d none h l = absurd (omega arith)
+word_paired (a ∷ (b ∷ bs)) (suc k) zero d none h l = refl
+word_paired (a ∷ (b ∷ bs)) (suc k) (suc i) d none h l = word_paired bs k i d none (omega arith) (omega arith)
 
-pub outside : (bs : List ℕ) (i : ℕ) → length bs ≤ i * 2 + 1 → false ≡ ltb i (length (words bs))
-outside bs i l = let long = words_length bs in grind (arith, nat_tests)
+-- and two bytes that are put there are that number.
+pub word_put : (bs : List ℕ) (i low high v at size : ℕ) (ys : List ℕ) → at ≡ i * 2 → size ≡ 2 → i * 2 + 1 < length bs → ys ≡ low ∷ (high ∷ []) → v ≡ low + high * 256 →
+    words (put_mid at size bs ys) ≡ set (words bs) i v
+word_put [] i low high v at size ys p q l y e = absurd (omega arith)
+word_put (a ∷ []) i low high v at size ys p q l y e = absurd (omega arith)
+word_put (a ∷ (b ∷ bs)) zero low high v at size ys p q l y e = rw (p, q, y, e) refl
+word_put (a ∷ (b ∷ bs)) (suc i) low high v at size ys p q l y e =
+    rw (p, low_on i) (ap (λ ws. (a + b * 256) ∷ ws) (word_put bs i low high v (i * 2) size ys refl q (omega arith) y e))
 
-pub word_there : (bs : List ℕ) (i v : ℕ) → i * 2 + 1 < length bs → v ≡ get_or bs (i * 2) 0 + get_or bs (i * 2 + 1) 0 * 256 → Some v ≡ word_of bs i
-word_there bs i v l e = ap Some (e ∙ sym (word_at bs i 0 l)) ∙ ap (λ t. pick t (Some (get_or (words bs) i 0)) None) (inside bs i l)
+-- Past the bytes there is no number to read or write.
+pub word_past : (bs : List ℕ) (i : ℕ) → length bs ≤ i * 2 + 1 → length (words bs) ≤ i
+word_past bs i l = omega (arith, words_length bs)
 
-pub word_none : (bs : List ℕ) (i : ℕ) → length bs ≤ i * 2 + 1 → None ≡ word_of bs i
-word_none bs i l = ap (λ t. pick t (Some (get_or (words bs) i 0)) None) (outside bs i l)
+pub read_past : (bs : List ℕ) (i d : ℕ) → length bs ≤ i * 2 + 1 → get_or (words bs) i d ≡ d
+read_past bs i d l = get_or_past (words bs) i d (word_past bs i l)
 
--- Past the bytes there is nothing to write.
 pub write_past : (bs : List ℕ) (i v : ℕ) → length bs ≤ i * 2 + 1 → words bs ≡ set (words bs) i v
-write_past bs i v l = sym (set_past (words bs) i v (omega (arith, words_length bs)))
+write_past bs i v l = sym (set_past (words bs) i v (word_past bs i l))
+
+-- The first numbers stand in the first bytes, and those behind them in the bytes behind.
+pub words_take : (k : ℕ) (bs : List ℕ) → words (take (k * 2) bs) ≡ take k (words bs)
+words_take zero bs = refl
+words_take (suc k) [] = rw (low_on k) refl
+words_take (suc k) (low ∷ []) = rw (low_on k) refl
+words_take (suc k) (low ∷ (high ∷ bs)) = rw (low_on k) (ap (λ ws. (low + high * 256) ∷ ws) (words_take k bs))
+
+pub words_drop : (k : ℕ) (bs : List ℕ) → words (drop (k * 2) bs) ≡ drop k (words bs)
+words_drop zero bs = refl
+words_drop (suc k) [] = rw (low_on k) refl
+words_drop (suc k) (low ∷ []) = rw (low_on k) refl
+words_drop (suc k) (low ∷ (high ∷ bs)) = rw (low_on k) (words_drop k bs)
+
+-- Bytes that are all 0 are numbers that are all 0.
+pub words_zeros : (n : ℕ) → words (replicate (n * 2) 0) ≡ replicate n 0
+words_zeros zero = refl
+words_zeros (suc n) = rw (low_on n) (ap (λ ws. 0 ∷ ws) (words_zeros n))
 
 -- Each pair of bytes can be told from its number, so all bytes can.
 pub same_bytes : (k : ℕ) (xs ys : List ℕ) → length xs ≡ k * 2 → length ys ≡ k * 2 → ((i : ℕ) → get_or xs i 0 < 256) → ((i : ℕ) → get_or ys i 0 < 256) → words xs ≡ words ys → xs ≡ ys

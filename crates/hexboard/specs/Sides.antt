@@ -1,8 +1,9 @@
 -- The sides of the code, by the numbers that a board's cells hold.
-use Rattle.std.specs.Prelude.{ℕ, Some, None, Option, ◌==◌}
+use Rattle.std.specs.Prelude.{ℕ, Some, None, Option, Ok, Err, Result, ◌==◌}
 use Rattle.hexboard.specs.Board.{pick}
 use Rattle.hexboard.specs.declared.side.Side.{Side}
 use Rattle.hexboard.specs.declared.side.Side.TheVariants.{One, Two}
+use Rattle.hexboard.specs.declared.side.NoSide.{NoSide}
 
 -- the number of a side
 abbrev pub number : Side → ℕ
@@ -12,3 +13,7 @@ number Two = 2
 -- the side of a number, where there is one
 abbrev pub by_number : ℕ → Option Side
 by_number s = pick (s == 1) (Some One) (pick (s == 2) (Some Two) None)
+
+-- the same with an error that carries the number
+abbrev pub side_numbered : ℕ → Result Side NoSide
+side_numbered s = pick (s == 1) (Ok One) (pick (s == 2) (Ok Two) (Err (record { 0 = s })))

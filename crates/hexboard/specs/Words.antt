@@ -11,3 +11,7 @@ words (low ∷ (high ∷ bytes)) = (low + high * 256) ∷ words bytes
 -- the number at a place, where there is one
 abbrev pub word_of : List ℕ → ℕ → Option ℕ
 word_of bytes i = pick (nat_lt i (length (words bytes))) (Some (slice_index (words bytes) i)) None
+
+-- whether there is a number at a place to write
+abbrev pub room_at : List ℕ → ℕ → Option (Unit {0})
+room_at bytes i = pick (nat_lt i (length (words bytes))) (Some tt) None

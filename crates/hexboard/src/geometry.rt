@@ -58,7 +58,8 @@ pub fn directions() -> u8
     6
 }
 
-// The borders of a side that a cell touches, as two bits: 1 for its first border, 2 for its last.
+// The borders of a side that a cell touches, as two bits: 1 for its first border, 2 for its last. They stay bits and become no
+// struct of two flags, since they are kept, and joined by `|`, as a byte of the game's memory.
 pub fn borders(size: Size, side: Side, cell: u16) -> u8
     ensures value { result ≡ touch size.n (number side) cell }
     ensures first { Decides (begins size.n (number side) cell) (result % 2 ≡ 1) }
@@ -70,9 +71,7 @@ pub fn borders(size: Size, side: Side, cell: u16) -> u8
         Side::One => cell / n,
         Side::Two => cell % n,
     };
-    let first = if place == 0 { 1 } else { 0 };
-    let last = if place == n - 1 { 2 } else { 0 };
-    first + last
+    u8::from(place == 0) + 2 * u8::from(place == n - 1)
 }
 
 #[cfg(test)]
@@ -93,6 +92,13 @@ mod tests {
         [0, 0, 0, 0, 0, 1, 0, 1, 0],
     ];
 
+    fn board(n: u16) -> Result<Size, Fail> {
+        match Size::new(n) {
+            Some(size) => Ok(size),
+            None => Err(Fail::new("no board is so wide")),
+        }
+    }
+
     fn six(size: Size, cell: u16) -> [Option<u16>; 6] {
         [
             neighbour(size, cell, 0),
@@ -106,10 +112,7 @@ mod tests {
 
     #[test]
     fn three_by_three(rt: HostRuntime) -> Result<(), Fail> {
-        let Some(size) = Size::new(3) else {
-            assert!(rt; false);
-            return Ok(());
-        };
+        let size = board(3)?;
         for i in 0..9u16 {
             for j in 0..9u16 {
                 let near = six(size, i).contains(&Some(j));
@@ -121,24 +124,15 @@ mod tests {
 
     #[test]
     fn corners(rt: HostRuntime) -> Result<(), Fail> {
-        let Some(one) = Size::new(1) else {
-            assert!(rt; false);
-            return Ok(());
-        };
+        let one = board(1)?;
         assert_eq!(rt; six(one, 0), [None, None, None, None, None, None]);
         assert_eq!(rt; borders(one, Side::One, 0), 3);
-        let Some(two) = Size::new(2) else {
-            assert!(rt; false);
-            return Ok(());
-        };
+        let two = board(2)?;
         assert_eq!(rt; six(two, 0), [Some(1), None, Some(2), None, None, None]);
         assert_eq!(rt; six(two, 1), [None, Some(0), Some(3), None, None, Some(2)]);
         assert_eq!(rt; six(two, 2), [Some(3), None, None, Some(0), Some(1), None]);
         assert_eq!(rt; six(two, 3), [None, Some(2), None, Some(1), None, None]);
-        let Some(most) = Size::new(19) else {
-            assert!(rt; false);
-            return Ok(());
-        };
+        let most = board(19)?;
         assert_eq!(rt; six(most, 0), [Some(1), None, Some(19), None, None, None]);
         assert_eq!(rt;
             six(most, 18),

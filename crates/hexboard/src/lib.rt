@@ -8,7 +8,7 @@ mod stones;
 mod words;
 
 pub use geometry::{borders, directions, neighbour};
-pub use side::Side;
+pub use side::{NoSide, Side};
 pub use size::Size;
 pub use stones::{Unplaced, clear, count_empty, first_pair, lift, place, stone};
 pub use words::{set_word, word};

@@ -21,8 +21,8 @@ pub enum Unplaced {
 pub fn stone(cells: &[u8], cell: u16) -> Option<Side>
     ensures value { result ≡ stone_at cells.now cell }
 {
-    let byte = cells.get(cell as usize)?;
-    Side::of(*byte)
+    let byte = cells.get(usize::from(cell))?;
+    Side::try_from(*byte).ok()
 }
 
 // Puts a stone on an empty cell. A cell that is not there or not empty is refused, and then nothing changes.
@@ -33,15 +33,16 @@ pub fn place(cells: &mut [u8], side: Side, cell: u16) -> Result<(), Unplaced>
     ensures fewer { result ≡ Ok tt → empties cells.new + 1 ≡ empties cells.old }
     ensures back { result ≡ Ok tt → slice_set cells.new cell 0 ≡ cells.old }
 {
-    let index = cell as usize;
-    if index >= cells.len() {
-        return Err(Unplaced::NoCell);
+    // `get`, and not `get_mut`: of a slice's elements a proof knows nothing once `get_mut` has lent one.
+    let index = usize::from(cell);
+    match cells.get(index) {
+        None => Err(Unplaced::NoCell),
+        Some(0) => {
+            cells[index] = u8::from(side);
+            Ok(())
+        }
+        Some(_) => Err(Unplaced::Taken),
     }
-    if cells[index] != 0 {
-        return Err(Unplaced::Taken);
-    }
-    cells[index] = side.number();
-    Ok(())
 }
 
 // Takes off what stands on a cell, and says which stone that was.
@@ -50,24 +51,17 @@ pub fn lift(cells: &mut [u8], cell: u16) -> Option<Side>
     ensures after { cells.new ≡ slice_set cells.old cell 0 }
     ensures good { (n : ℕ) → Good (laid n cells.old) → Good (laid n cells.new) }
 {
-    let lifted = stone(cells, cell);
-    if (cell as usize) < cells.len() {
-        cells[cell as usize] = 0;
-    }
-    lifted
+    let index = usize::from(cell);
+    let byte = *cells.get(index)?;
+    cells[index] = 0;
+    Side::try_from(byte).ok()
 }
 
 // How many cells are empty.
 pub fn count_empty(cells: &[u8]) -> usize
     ensures value { result ≡ empties cells.now }
 {
-    let mut count = 0;
-    for byte in cells {
-        if *byte == 0 {
-            count += 1;
-        }
-    }
-    count
+    cells.iter().filter(|byte| **byte == 0).count()
 }
 
 // Takes all stones off.
@@ -84,7 +78,6 @@ pub fn clear(cells: &mut [u8])
 pub fn first_pair(size: Size, cells: &[u8]) -> Option<(u16, u16)>
     ensures { MatchOption result (NoPair (laid size.n cells.now)) (λ p. FirstPair (laid size.n cells.now) p.0 p.1) }
 {
-    let mut found = None;
     'cells: for i in 0..size.cells() {
         let Some(side) = stone(cells, i) else {
             continue 'cells;
@@ -94,12 +87,11 @@ pub fn first_pair(size: Size, cells: &[u8]) -> Option<(u16, u16)>
                 continue;
             };
             if stone(cells, j) == Some(side) {
-                found = Some((i, j));
-                break 'cells;
+                return Some((i, j));
             }
         }
     }
-    found
+    None
 }
 
 #[cfg(test)]
@@ -110,8 +102,7 @@ mod tests {
     #[test]
     fn first_two(rt: HostRuntime) -> Result<(), Fail> {
         let Some(size) = Size::new(3) else {
-            assert!(rt; false);
-            return Ok(());
+            return Err(Fail::new("no board is 3 wide"));
         };
         let mut cells = [0; 9];
         place(&mut cells, Side::One, 8)?;

@@ -1,29 +1,25 @@
 // Numbers of two bytes each in lent bytes, low byte first.
-ghost use Rattle.std.specs.Prelude.{◌≡◌, ℕ, length, nat_lt, slice_set};
-ghost use Rattle.hexboard.specs.Words.{words, word_of};
+ghost use Rattle.std.specs.Prelude.{◌≡◌, ℕ, length, slice_set};
+ghost use Rattle.hexboard.specs.Words.{words, word_of, room_at};
 
 // The number at a place, where there is one.
 pub fn word(bytes: &[u8], place: u16) -> Option<u16>
     ensures { result ≡ word_of bytes.now place }
 {
-    let low = place as usize * 2;
-    if low + 1 >= bytes.len() {
-        return None;
-    }
-    Some(u16::from_le_bytes([bytes[low], bytes[low + 1]]))
+    let (pairs, _) = bytes.as_chunks::<2>();
+    let pair = pairs.get(usize::from(place))?;
+    Some(u16::from_le_bytes(*pair))
 }
 
-// Writes the number at a place, and says whether there is one; if not, nothing changes.
-pub fn set_word(bytes: &mut [u8], place: u16, value: u16) -> bool
-    ensures told { result ≡ nat_lt place (length (words bytes.old)) }
+// Writes the number at a place, if there is one; if not, nothing changes.
+pub fn set_word(bytes: &mut [u8], place: u16, value: u16) -> Option<()>
+    ensures told { result ≡ room_at bytes.old place }
     ensures after { words bytes.new ≡ slice_set (words bytes.old) place value }
 {
-    let at = place as usize * 2;
-    if at + 1 >= bytes.len() {
-        return false;
+    let at = usize::from(place) * 2;
+    if at + 2 > bytes.len() {
+        return None;
     }
-    let [low, high] = value.to_le_bytes();
-    bytes[at] = low;
-    bytes[at + 1] = high;
-    true
+    bytes[at..at + 2].copy_from_slice(&value.to_le_bytes());
+    Some(())
 }

@@ -33,7 +33,7 @@ pub fn make_move(
     let side = game.turn();
     groups::place(game.size, stones, side, cell, parents, borders);
     stones[cell as usize] = side.number();
-    hexboard::set_word(log, game.count, cell);
+    let _ = hexboard::set_word(log, game.count, cell);
     Ok(Game {
         size: game.size,
         count: game.count + 1,
@@ -58,7 +58,7 @@ pub fn take_back(
     let cell = hexboard::word(log, last).unwrap();
     groups::lift(game.size, cell, parents, borders);
     stones[cell as usize] = 0;
-    hexboard::set_word(log, last, 0);
+    let _ = hexboard::set_word(log, last, 0);
     Ok(Game {
         size: game.size,
         count: last,

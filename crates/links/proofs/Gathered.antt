@@ -1,9 +1,10 @@
 -- The empty cells gathered by what they touch: steps as the code takes them, and what is in the sets.
-use Rattle.std.proofs.Common.{◌≡◌, ℕ, zero, suc, ◌+◌, ◌*◌, ◌^◌, ◌<◌, Bool, true, false, eqb, ◌≢◌, ◌⊎◌, List, length, get_or, take, replicate, Some, None, Option, sym, refl, ap, ◌∙◌, subst, inl, inr, ⊎_elim, add-one, arith}
+use Rattle.std.proofs.Common.{◌≡◌, ℕ, zero, suc, ◌+◌, ◌*◌, ◌^◌, ◌<◌, Bool, true, false, eqb, ◌≢◌, ◌⊎◌, List, length, get_or, replicate, Some, None, Option, sym, refl, ap, ap₂, ◌∙◌, subst, inl, inr, ⊎_elim, add-one, arith}
 use lib.Bits.{bit_or}
-use Rattle.std.proofs.lemmas.List.{length-set, length-replicate, get_or-set_same, get_or-set_other, get_or-take, set_past}
+use Rattle.std.specs.Option.{option_map}
+use Rattle.std.proofs.lemmas.List.{length-set, length-replicate, get_or-set_same, get_or-set_other, set_past}
 use Rattle.std.proofs.lemmas.Bool.{cases_eq, cases_lt, eqb-true, eq-eqb}
-use Rattle.hexboard.specs.Board.{pick, Board, at, next_to}
+use Rattle.hexboard.specs.Board.{pick, Board, at, other, next_to}
 use Rattle.hexboard.specs.Geometry.{neighbour_of}
 use Rattle.hexboard.specs.Rows.{Stone}
 use Rattle.hexboard.proofs.Neighbours.{neighbour_next, neighbour_all}
@@ -11,14 +12,14 @@ use Rattle.groups.specs.Forest.{root}
 use Rattle.groups.proofs.Placing.{stone_here}
 use Rattle.ranking.specs.Sets.{bit}
 use Rattle.ranking.proofs.Bits.{bit_none, bit_one, in_or, or_left, or_right}
-use Rattle.links.specs.Gathering.{over, enter, entered_at, entered_all, gathered}
+use Rattle.links.specs.Gathering.{over, enter, entered_at, entered_all, gathered, joined_at}
 
 -- Nothing has been looked at, or one more.
 pub over_none : {S : Type 0} (look : Option ℕ → S → S) (next : ℕ → Option ℕ) (s : S) → s ≡ over look next 0 s
 unfolding over
 over_none look next s = refl
 
-pub over_more : {S : Type 0} (look : Option ℕ → S → S) (next : ℕ → Option ℕ) (m : ℕ) (s now new : S) → now ≡ over look next m s →
+over_more : {S : Type 0} (look : Option ℕ → S → S) (next : ℕ → Option ℕ) (m : ℕ) (s now new : S) → now ≡ over look next m s →
     new ≡ look (next m) now → new ≡ over look next (m + 1) s
 unfolding over
 over_more look next m s now new e t = rw add-one (t ∙ ap (look (next m)) e)
@@ -27,12 +28,48 @@ pub gathered_none : (b : Board) (w : ℕ) (ps es : List ℕ) → replicate 361 0
 unfolding gathered
 gathered_none b w ps es = refl
 
--- the cells es are the first of a longer list
-pub gathered_more : (b : Board) (w : ℕ) (ps cells : List ℕ) (count m : ℕ) (now new : List ℕ) → m < count → now ≡ gathered b w ps (take count cells) m →
-    new ≡ entered_all b w ps m (get_or cells m 0) now → new ≡ gathered b w ps (take count cells) (m + 1)
+-- one more cell has been gathered
+pub gathered_more : (b : Board) (w : ℕ) (ps es : List ℕ) (m cell : ℕ) (now new : List ℕ) → now ≡ gathered b w ps es m →
+    cell ≡ get_or es m 0 → new ≡ entered_all b w ps m cell now → new ≡ gathered b w ps es (m + 1)
 unfolding gathered
-gathered_more b w ps cells count m now new l e t =
-    rw add-one (t ∙ ap (λ i. entered_all b w ps m i now) (sym (get_or-take count cells m 0 l)) ∙ ap (entered_all b w ps m (get_or (take count cells) m 0)) e)
+gathered_more b w ps es m cell now new e is t = rw add-one (t ∙ ap₂ (entered_all b w ps m) is e)
+
+-- What is done with what lies next to a cell, which is a stone or none and the root of its group.
+abbrev pub entered_by : ℕ → ℕ → Option (ℕ × ℕ) → List ℕ → List ℕ
+entered_by w k None sets = sets
+entered_by w k (Some (stone, r)) sets = pick (eqb stone w) (enter k r sets) sets
+
+abbrev pub joined_by : ℕ → (ℕ → ℕ) → Option (ℕ × ℕ) → ℕ → ℕ
+joined_by w f None x = x
+joined_by w f (Some (stone, r)) x = pick (eqb stone (other w)) x (bit_or x (f r))
+
+module _ (b : Board) (w : ℕ) (ps : List ℕ) where
+  -- what stands there, and its root
+  abbrev pub found : Option ℕ → Option (ℕ × ℕ)
+  found o = option_map (λ p. (at b p, root ps p)) o
+
+  -- So one more is looked at.
+  looked_more : {S : Type 0} (look : Option ℕ → S → S) (by : Option (ℕ × ℕ) → S → S) → ((o : Option ℕ) (s : S) → by (found o) s ≡ look o s) →
+      (i m : ℕ) (near : Option (ℕ × ℕ)) (s now new : S) → now ≡ over look (neighbour_of b.wide i) m s → near ≡ found (neighbour_of b.wide i m) →
+      new ≡ by near now → new ≡ over look (neighbour_of b.wide i) (m + 1) s
+  looked_more look by same i m near s now new so_far e t =
+      over_more look (neighbour_of b.wide i) m s now new so_far (t ∙ ap (λ n. by n now) e ∙ same (neighbour_of b.wide i m) now)
+
+  pub entered_more : (k i m : ℕ) (near : Option (ℕ × ℕ)) (s now new : List ℕ) → now ≡ over (entered_at b w ps k) (neighbour_of b.wide i) m s →
+      near ≡ found (neighbour_of b.wide i m) → new ≡ entered_by w k near now → new ≡ over (entered_at b w ps k) (neighbour_of b.wide i) (m + 1) s
+  entered_more k = looked_more (entered_at b w ps k) (entered_by w k) same
+    where
+      same : (o : Option ℕ) (sets : List ℕ) → entered_by w k (found o) sets ≡ entered_at b w ps k o sets
+      same None sets = refl
+      same (Some p) sets = refl
+
+  pub joined_more : (f : ℕ → ℕ) (i m : ℕ) (near : Option (ℕ × ℕ)) (s now new : ℕ) → now ≡ over (joined_at b w ps f) (neighbour_of b.wide i) m s →
+      near ≡ found (neighbour_of b.wide i m) → new ≡ joined_by w f near now → new ≡ over (joined_at b w ps f) (neighbour_of b.wide i) (m + 1) s
+  joined_more f = looked_more (joined_at b w ps f) (joined_by w f) same
+    where
+      same : (o : Option ℕ) (x : ℕ) → joined_by w f (found o) x ≡ joined_at b w ps f o x
+      same None x = refl
+      same (Some p) x = refl
 
 -- p is one of the first m that lie next to a cell
 abbrev pub Among : (ℕ → Option ℕ) → ℕ → ℕ → Type 0

@@ -1,9 +1,9 @@
--- The empty cells, listed one after the other: what the loop keeps, and that they are numbered.
-use Rattle.std.proofs.Common.{◌≡◌, ℕ, zero, suc, ◌+◌, ◌<◌, ◌≤◌, Bool, true, false, eqb, ◌⊎◌, List, [], ◌∷◌, ◌++◌, length, get_or, take, drop, set, sym, refl, ap, ◌∙◌, inl, inr, arith}
-use Rattle.std.proofs.lemmas.List.{append-nil, length-append, length-take-le, take-append-drop, take_more, take_more_set, take_all, length-set}
+-- The empty cells, listed one after the other, and that they are numbered.
+use Rattle.std.proofs.Common.{◌≡◌, ℕ, zero, suc, ◌+◌, ◌<◌, ◌≤◌, Bool, true, false, eqb, ◌⊎◌, List, [], ◌∷◌, ◌++◌, length, get_or, take, drop, sym, refl, ap, ◌∙◌, inl, inr, arith}
+use Rattle.std.proofs.lemmas.List.{append-nil, length-append, length-take-le, take-append-drop, take_more, take_all}
 use Rattle.std.proofs.lemmas.Bool.{eqb-true, eq-eqb, ne_eqb}
 use Rattle.hexboard.specs.Board.{pick, Board, at, empties}
-use Rattle.links.specs.Cells.{zeros_from, free_cells}
+use Rattle.links.specs.Cells.{zeros_from, free_cells, Lists}
 use Rattle.endgame.specs.Ends.{Numbered}
 
 -- the zeros of a list in two parts
@@ -89,12 +89,12 @@ free_numbered b = record {
     once j k l m e (inr (inr more)) = absurd (omega (arith, zeros_rise 0 b.cells k j more l))
 
 -- one more cell is looked at: it is not empty, or it is
-free_same : (xs : List ℕ) (i : ℕ) → i < length xs → (get_or xs i 0 ≡ 0 → ⊥) → free_cells (take (i + 1) xs) ≡ free_cells (take i xs)
+pub free_same : (xs : List ℕ) (i : ℕ) → i < length xs → (get_or xs i 0 ≡ 0 → ⊥) → free_cells (take (i + 1) xs) ≡ free_cells (take i xs)
 unfolding zeros_from
 free_same xs i l h =
     ap free_cells (take_more xs i 0 l) ∙ zeros_append 0 (take i xs) (get_or xs i 0 ∷ []) ∙ rw (ne_eqb (get_or xs i 0) 0 h) (append-nil (free_cells (take i xs)))
 
-free_more : (xs : List ℕ) (i : ℕ) → i < length xs → get_or xs i 0 ≡ 0 → free_cells (take (i + 1) xs) ≡ free_cells (take i xs) ++ (i ∷ [])
+pub free_more : (xs : List ℕ) (i : ℕ) → i < length xs → get_or xs i 0 ≡ 0 → free_cells (take (i + 1) xs) ≡ free_cells (take i xs) ++ (i ∷ [])
 unfolding zeros_from
 free_more xs i l h =
     let at_i : 0 + length (take i xs) ≡ i = omega (arith, length-take-le i xs (omega arith)) in
@@ -107,35 +107,12 @@ free_part xs i =
     ap (λ l. length (free_cells l)) (sym (take-append-drop i xs)) ∙ ap length (zeros_append 0 (take i xs) (drop i xs)) ∙ length-append (free_cells (take i xs)) (zeros_from (0 + length (take i xs)) (drop i xs)) in
     omega (arith, zeros_many 0 xs)
 
--- The empty ones of the first i cells of xs are listed, in room for 16.
-pub record Listing (xs : List ℕ) (i : ℕ) (cells : List ℕ) (count : ℕ) : Type 0 where
-  pub room : length cells ≡ 16
-  pub few : count ≤ 16
-  pub so_far : take count cells ≡ free_cells (take i xs)
+-- where 16 are listed of the first i cells, and the next is empty too, there are more
+pub free_beyond : (xs cells : List ℕ) (i : ℕ) → cells ≡ free_cells (take i xs) → i < length xs → get_or xs i 0 ≡ 0 → length cells ≡ 16 → 16 < empties xs
+free_beyond xs cells i so_far l free full =
+    omega (arith, ap length so_far, free_part xs (i + 1), ap length (free_more xs i l free), length-append (free_cells (take i xs)) (i ∷ []))
 
-pub listing_none : (xs cells : List ℕ) → length cells ≡ 16 → Listing xs 0 cells 0
-unfolding zeros_from
-listing_none xs cells e = record { room = e; few = omega arith; so_far = refl }
-
-module _ {xs : List ℕ} {i : ℕ} {cells : List ℕ} {count : ℕ} (h : Listing xs i cells count) where
-  pub listing_skip : i < length xs → (get_or xs i 0 ≡ 0 → ⊥) → Listing xs (i + 1) cells count
-  listing_skip l taken = record { room = h.room; few = h.few; so_far = h.so_far ∙ sym (free_same xs i l taken) }
-
-  pub listing_more : i < length xs → get_or xs i 0 ≡ 0 → (count ≡ 16 → ⊥) → Listing xs (i + 1) (set cells count i) (count + 1)
-  listing_more l free left = record {
-    room = length-set cells count i ∙ h.room;
-    few = omega (arith, h.few);
-    so_far = take_more_set cells count i (omega (arith, h.room, h.few)) ∙ ap (λ l. l ++ (i ∷ [])) h.so_far ∙ sym (free_more xs i l free);
-  }
-
-  -- an empty cell for which there is no room
-  pub listing_full : i < length xs → get_or xs i 0 ≡ 0 → count ≡ 16 → 16 < empties xs
-  listing_full l free full =
-      let found : length (free_cells (take i xs)) ≡ count = sym (ap length h.so_far) ∙ length-take-le count cells (omega (arith, h.room, h.few)) in
-      omega (arith, free_part xs (i + 1), ap length (free_more xs i l free), length-append (free_cells (take i xs)) (i ∷ []))
-
-  pub listing_all : length xs ≤ i → take count cells ≡ free_cells xs
-  listing_all l = h.so_far ∙ ap free_cells (take_all i xs l)
-
-  pub listing_many : length xs ≤ i → count ≡ empties xs
-  listing_many l = sym (length-take-le count cells (omega (arith, h.room, h.few))) ∙ ap length (listing_all l) ∙ zeros_many 0 xs
+-- once all cells have been looked at, all empty ones are listed
+pub lists_all : (xs cells : List ℕ) (i : ℕ) → cells ≡ free_cells (take i xs) → length xs ≤ i → Lists xs cells
+lists_all xs cells i so_far l =
+    let all = so_far ∙ ap free_cells (take_all i xs l) in record { cells = all; many = ap length all ∙ zeros_many 0 xs }

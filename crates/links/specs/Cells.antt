@@ -1,7 +1,6 @@
 -- The empty cells of a board, listed. Definitions only.
-use Rattle.std.specs.Prelude.{◌≡◌, ℕ, suc, List, [], ◌∷◌, take, ◌==◌}
+use Rattle.std.specs.Prelude.{◌≡◌, ℕ, suc, List, [], ◌∷◌, length, ◌==◌}
 use Rattle.hexboard.specs.Board.{pick, empties}
-use Rattle.links.specs.declared.empty_cells.EmptyCells.{EmptyCells}
 
 -- the places of the zeros in a list, counted from i
 unfoldable pub zeros_from : ℕ → List ℕ → List ℕ
@@ -12,11 +11,7 @@ zeros_from i (c ∷ cs) = pick (c == 0) (i ∷ zeros_from (suc i) cs) (zeros_fro
 abbrev pub free_cells : List ℕ → List ℕ
 free_cells cells = zeros_from 0 cells
 
--- those that are listed
-abbrev pub listed : EmptyCells → List ℕ
-listed c = take c.count c.cells
-
 -- the empty ones of these cells are listed, all of them and in their order
-pub record Lists (stones : List ℕ) (c : EmptyCells) : Type 0 where
-  pub cells : listed c ≡ free_cells stones
-  pub many : c.count ≡ empties stones
+pub record Lists (stones es : List ℕ) : Type 0 where
+  pub cells : es ≡ free_cells stones
+  pub many : length es ≡ empties stones

@@ -1,3 +1,4 @@
 pub mod Cells
 pub mod Gathering
+pub mod Grouped
 pub mod Prepared

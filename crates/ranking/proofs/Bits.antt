@@ -88,6 +88,17 @@ lowest_in (suc w) x p f = go (x % 2) refl (λ e. lowest_in w (x / 2) (omega arit
     go zero e rest = ((rest e).0, omega (arith, (rest e).1))
     go (suc d) e rest = (omega arith, omega arith)
 
+-- and no cell before it is in the set
+pub none_below : (w x j : ℕ) → j < count_trailing_zeros w x → bit j x ≡ 0
+unfolding bit count_trailing_zeros
+none_below zero x j l = absurd (omega arith)
+none_below (suc w) x j l = go (x % 2) refl j l (none_below w (x / 2))
+  where
+    go : (d : ℕ) → x % 2 ≡ d → (j : ℕ) → j < under d (count_trailing_zeros w (x / 2)) → ((i : ℕ) → i < count_trailing_zeros w (x / 2) → bit i (x / 2) ≡ 0) → bit j x ≡ 0
+    go zero e zero m rest = e
+    go zero e (suc j) m rest = rest j (omega arith)
+    go (suc d) e j m rest = absurd (omega arith)
+
 -- a number is below two to its power
 below_pow : (x : ℕ) → x < 2 ^ x
 below_pow zero = omega arith

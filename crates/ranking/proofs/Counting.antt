@@ -1,7 +1,6 @@
 -- How many ways there are to lay stones: the law of the first cell, and bounds.
-use Rattle.std.proofs.Common.{◌≡◌, ℕ, zero, suc, ◌+◌, ◌-◌, ◌*◌, ◌/◌, ◌%◌, ◌^◌, ◌<◌, ◌≤◌, List, get_or, refl, ap, ◌∙◌, le_trans, add-mul, mul-le-mul, pow-suc, mul-add, arith, pow_mono}
+use Rattle.std.proofs.Common.{◌≡◌, ℕ, zero, suc, ◌+◌, ◌-◌, ◌*◌, ◌/◌, ◌%◌, ◌^◌, ◌<◌, ◌≤◌, refl, ap, ◌∙◌, le_trans, add-mul, mul-le-mul, pow-suc, mul-add, arith, pow_mono}
 use Rattle.ranking.specs.Positions.{choose, count, start}
-use Rattle.ranking.specs.Triangle.{Rows}
 
 -- nothing is chosen in one way
 pub choose_none : (n : ℕ) → choose n 0 ≡ 1
@@ -107,13 +106,6 @@ above i h l =
 -- the numbers of the first 17 rows are small
 pub choose_small : (n k : ℕ) → n ≤ 16 → choose n k ≤ 65536
 choose_small n k h = le_trans (choose_le n k) (pow_mono h)
-
--- a number of the triangle where a list has its rows
-pub in_triangle : (t : List ℕ) → Rows 289 t → (n k : ℕ) → n ≤ 16 → k ≤ 16 → get_or t (n * 17 + k) 0 ≡ choose n k
-in_triangle t rows n k h i =
-    let row_is : (n * 17 + k) / 17 ≡ n = omega arith in
-    let column-is : (n * 17 + k) % 17 ≡ k = omega arith in
-    rw (row_is, column-is) at (rows (n * 17 + k) (omega arith))
 
 pub count_small : (k a b : ℕ) → k ≤ 16 → a + b ≤ 16 → count k a b ≤ 2 ^ 32
 unfolding count

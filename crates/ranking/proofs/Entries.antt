@@ -1,7 +1,7 @@
 -- One place of a table of two bits to a place is written, and all the others stay.
-use Rattle.std.proofs.Common.{◌≡◌, ℕ, zero, suc, ◌+◌, ◌-◌, ◌*◌, ◌/◌, ◌%◌, ◌^◌, ◌<◌, ◌≤◌, ◌≢◌, List, length, get_or, set, sym, refl, ap, ◌∙◌, ⊎_elim, arith, length-set}
+use Rattle.std.proofs.Common.{◌≡◌, ℕ, zero, suc, ◌+◌, ◌-◌, ◌*◌, ◌/◌, ◌%◌, ◌^◌, ◌<◌, ◌≤◌, ◌≢◌, List, length, get_or, replicate, set, sym, refl, ap, ◌∙◌, ⊎_elim, arith, length-set}
 use lib.Bits.{bit_and, and_mask}
-use Rattle.std.proofs.lemmas.List.{get_or-set_same, get_or-set_other, get_or_past}
+use Rattle.std.proofs.lemmas.List.{get_or-set_same, get_or-set_other, get_or_past, get_or-replicate, length-replicate}
 use Rattle.std.proofs.lemmas.Bool.{cases_eq, cases_lt}
 use Rattle.ranking.specs.Table.{entry, Put}
 
@@ -42,10 +42,10 @@ pub read : (byte q : ℕ) → bit_and (byte / 2 ^ (2 * q)) 3 ≡ part byte q
 read byte q = and_mask (byte / 2 ^ (2 * q)) 2
 
 -- a table of zero bytes has zero at every place
-pub all_clear : (t : List ℕ) → ((k : ℕ) → k < length t → get_or t k 0 ≡ 0) → (i : ℕ) → entry t i ≡ 0
+pub all_clear : (n i : ℕ) → entry (replicate n 0) i ≡ 0
 unfolding entry
-all_clear t h i =
-    let zeros : get_or t (i / 4) 0 ≡ 0 = ⊎_elim (h (i / 4)) (get_or_past t (i / 4) 0) (cases_lt (i / 4) (length t)) in
+all_clear n i =
+    let zeros : get_or (replicate {A = ℕ} n 0) (i / 4) 0 ≡ 0 = ⊎_elim (get_or-replicate {A = ℕ} n (i / 4) 0 0) (λ p. get_or_past (replicate {A = ℕ} n 0) (i / 4) 0 (omega (arith, length-replicate {A = ℕ} n 0))) (cases_lt (i / 4) n) in
     rw zeros (quarters (λ q. 0 / 2 ^ (2 * q) % 4 ≡ 0) refl refl refl refl (i % 4) (omega arith))
 
 -- what the code writes: the byte without its old part, and with the new one

@@ -1,4 +1,5 @@
 pub mod Bits
+pub mod Members
 pub mod Counting
 pub mod Ranks
 pub mod Entries

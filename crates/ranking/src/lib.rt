@@ -6,5 +6,5 @@ mod sets;
 mod table;
 
 pub use positions::Ranking;
-pub use sets::{lowest, one};
+pub use sets::{Cells, lowest, one};
 pub use table::{clear, get, put};

@@ -1,25 +1,20 @@
 // The place of a position among all that can arise in an end of a game.
-ghost use Rattle.std.specs.Prelude.{◌≡◌, ℕ, ◌+◌, ◌/◌, ◌%◌, ◌<◌, ◌≤◌, length};
+ghost use Rattle.std.specs.Prelude.{◌≡◌, ℕ, ◌+◌, ◌/◌, ◌%◌, ◌<◌, ◌≤◌};
 ghost use Rattle.ranking.specs.Positions.{Position, choose, count, before, place, total};
 ghost use Rattle.ranking.specs.Triangle.{Rows, Starts};
 
-// What the places of positions are reckoned from, for ends with so many cells: Pascal's triangle, row after row, and how many
-// positions have fewer stones.
+// Rows 0 to 16 of Pascal's triangle, 17 numbers in a row.
 #[derive(Drop)]
-pub struct Ranking {
-    pub cells: u32,
-    triangle: [u32; 289],
-    starts: [usize; 18],
-    ghost few: { cells ≤ 16 },
-    ghost rows: { Rows 289 triangle },
-    ghost begins: { Starts cells 18 starts },
+struct Triangle {
+    numbers: [u32; 289],
+    ghost rows: { Rows 289 numbers },
 }
 
 // The next number of the triangle: 1 in the first column, 0 in the rest of the first row, else the sum of the two above.
-fn next(triangle: &[u32], i: usize) -> u32
-    requires long { length triangle.now ≡ 289 }
+#[tactic(auto, using(crate::proofs::Counting::column, crate::proofs::Counting::row, crate::proofs::Counting::above, crate::proofs::Counting::choose_small))]
+fn next(numbers: &[u32; 289], i: usize) -> u32
     requires inside { i < 289 }
-    requires rows { Rows i triangle.now }
+    requires rows { Rows i numbers.now }
     ensures { result ≡ choose (i / 17) (i % 17) }
 {
     if i % 17 == 0 {
@@ -27,46 +22,61 @@ fn next(triangle: &[u32], i: usize) -> u32
     } else if i < 17 {
         0
     } else {
-        triangle[i - 18] + triangle[i - 17]
+        numbers[i - 18] + numbers[i - 17]
     }
 }
 
-// Rows 0 to 16 of Pascal's triangle.
-fn triangle() -> [u32; 289]
-    ensures { Rows 289 result }
-{
-    let mut rows = [0; 289];
-    for i in 0..289 {
-        rows[i] = next(&rows, i);
+impl Triangle {
+    fn new() -> Triangle {
+        let mut numbers = [0; 289];
+        // By index: each number is read from those before it.
+        for i in 0..289 {
+            numbers[i] = next(&numbers, i);
+        }
+        Triangle { numbers }
     }
-    rows
+
+    // How many sets of k of n things there are.
+    fn choose(&self, n: u32, k: u32) -> u32
+        requires { (n ≤ 16) × (k ≤ 16) }
+        ensures { result ≡ choose n k }
+    {
+        self.numbers[n as usize * 17 + k as usize]
+    }
+
+    // How many ways there are to lay a stones of one side and b of the other on k cells.
+    fn ways(&self, k: u32, a: u32, b: u32) -> usize
+        requires { (k ≤ 16) × (a + b ≤ 16) }
+        ensures { result ≡ count k a b }
+    {
+        self.choose(k, a + b) as usize * self.choose(a + b, a) as usize
+    }
+
+    // How many of the ways to lay a and b stones on k + 1 cells come before those with m and t of them on the first cell.
+    #[tactic(auto, using(std::proofs::lemmas::Bool::Decides::nat_tests), unfolding(crate::specs::Positions::before))]
+    fn before(&self, k: u32, m: u32, t: u32, a: u32, b: u32) -> usize
+        requires { (k < 16) × ((a + b ≤ 16) × (t ≤ b)) }
+        ensures { result ≡ before k m t a b }
+    {
+        if m == 1 {
+            self.ways(k, a, b)
+        } else if t == 1 {
+            self.ways(k + 1, a, b) - self.ways(k, a, b - 1)
+        } else {
+            0
+        }
+    }
 }
 
-// How many ways there are to lay a stones of one side and b of the other on k cells.
-fn ways(triangle: &[u32], k: u32, a: u32, b: u32) -> usize
-    requires long { length triangle.now ≡ 289 }
-    requires rows { Rows 289 triangle.now }
-    requires few { (k ≤ 16) × (a + b ≤ 16) }
-    ensures { result ≡ count k a b }
-{
-    let stones = (a + b) as usize;
-    triangle[k as usize * 17 + stones] as usize * triangle[stones * 17 + a as usize] as usize
-}
-
-// How many of the ways to lay a and b stones on k + 1 cells come before those with m and t of them on the first cell.
-fn before(triangle: &[u32], k: u32, m: u32, t: u32, a: u32, b: u32) -> usize
-    requires long { length triangle.now ≡ 289 }
-    requires rows { Rows 289 triangle.now }
-    requires few { (k < 16) × ((a + b ≤ 16) × (t ≤ b)) }
-    ensures { result ≡ before k m t a b }
-{
-    if m == 1 {
-        ways(triangle, k, a, b)
-    } else if t == 1 {
-        ways(triangle, k + 1, a, b) - ways(triangle, k, a, b - 1)
-    } else {
-        0
-    }
+// What the places of positions are reckoned from, for ends with so many cells: Pascal's triangle, and how many positions have fewer
+// stones.
+#[derive(Drop)]
+pub struct Ranking {
+    pub cells: u32,
+    triangle: Triangle,
+    starts: [usize; 18],
+    ghost few: { cells ≤ 16 },
+    ghost begins: { Starts cells 18 starts },
 }
 
 impl Ranking {
@@ -75,11 +85,12 @@ impl Ranking {
         requires { cells ≤ 16 }
         ensures { result.cells ≡ cells }
     {
-        let triangle = triangle();
+        let triangle = Triangle::new();
         let mut starts = [0; 18];
+        // By index: each number is the one before it and more.
         for m in 0..17 {
             let stones = m as u32;
-            starts[m + 1] = starts[m] + ways(&triangle, cells, stones / 2, (stones + 1) / 2);
+            starts[m + 1] = starts[m] + triangle.ways(cells, stones / 2, (stones + 1) / 2);
         }
         Ranking {
             cells,
@@ -107,9 +118,10 @@ impl Ranking {
         let mut x = mine;
         let mut y = theirs;
         for k in (0..self.cells).rev() {
+            // Numbers, and not an enum of what stands on the cell: they are taken off the numbers of stones.
             let m = (x % 2) as u32;
             let t = (y % 2) as u32;
-            place += before(&self.triangle, k, m, t, a, b);
+            place += self.triangle.before(k, m, t, a, b);
             a -= m;
             b -= t;
             x /= 2;

@@ -6,12 +6,11 @@ ghost use Rattle.ranking.specs.Table.{entry, Put};
 pub fn clear(table: &mut [u8])
     ensures { (i : ℕ) → entry table.new i ≡ 0 }
 {
-    for byte in table.iter_mut() {
-        *byte = 0;
-    }
+    table.fill(0);
 }
 
 // What stands at a place.
+#[tactic(auto, using(crate::proofs::Entries::read), unfolding(crate::specs::Table::entry))]
 pub fn get(table: &[u8], place: usize) -> u8
     requires { place / 4 < length table.now }
     ensures { result ≡ entry table.now place }

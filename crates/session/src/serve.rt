@@ -10,6 +10,7 @@ ghost use Rattle.session.specs.Told.{told_who, found_cells};
 use crate::reply::Reply;
 use hexboard::Side;
 use history::Game;
+use links::Grouped;
 use verdict::Verdict;
 use wire::{Call, Refusal};
 
@@ -81,7 +82,13 @@ fn can_force(game: Game, stones: &[u8], parents: &[u8], borders: &[u8], scratch:
             Reply::No
         };
     }
-    match verdict::can_force(game.size(), turn, stones, parents, borders, scratch) {
+    let position = Grouped {
+        size: game.size(),
+        stones,
+        parents,
+        borders,
+    };
+    match verdict::can_force(&position, turn, scratch) {
         Verdict::Yes(cell) => Reply::Yes(cell + 1),
         Verdict::No => Reply::No,
         Verdict::TooMany => Reply::TooMany,

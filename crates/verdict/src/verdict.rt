@@ -1,5 +1,5 @@
 // Whether a side to move can bring about that it connects, and by which move, in a position with few empty cells.
-ghost use Rattle.std.specs.Prelude.{◌≡◌, ℕ, ◌-◌, ◌*◌, ◌^◌, ◌<◌, ◌≤◌, true, length};
+ghost use Rattle.std.specs.Prelude.{◌≡◌, ◌-◌, ◌*◌, ◌^◌, ◌<◌, ◌≤◌, true, length};
 ghost use Rattle.hexboard.specs.Board.{empties};
 ghost use Rattle.hexboard.specs.Sides.{number};
 ghost use Rattle.ranking.specs.Sets.{Within};
@@ -9,9 +9,11 @@ ghost use Rattle.endgame.specs.Searched.{Looked};
 
 use endgame::{Found, Links, Position, solve};
 use hexboard::{Side, Size};
+use links::Grouped;
 use ranking::{Ranking, lowest, one};
 
-// Yes, by a move to this cell; no; or that too many cells are empty to look through the end.
+// Yes, by a move to this cell; no; or that too many cells are empty to look through the end. None of the three is an error or the
+// lack of an answer, so this is no Result and no Option.
 #[derive(Clone, Copy, PartialEq, Eq, Debug)]
 pub enum Verdict {
     Yes(u16),
@@ -26,32 +28,24 @@ pub fn table_bytes(size: Size) -> usize
     if size.width() < 4 { 1512 } else { 2541445 }
 }
 
-// Whether a side to move can force that it connects, in a position where nobody has connected whose stones and groups the memory
-// holds. More than 16 empty cells are too many. The table may hold anything before and afterwards.
-pub fn can_force(
-    size: Size,
-    side: Side,
-    stones: &[u8],
-    parents: &[u8],
-    borders: &[u8],
-    table: &mut [u8],
-) -> Verdict
-    requires long { length stones.now ≡ size.n * size.n }
-    requires room { bytes_of_table size.n ≤ length table.old }
-    ensures right { Judges size.n (number side) stones.now parents.now borders.now result }
-    ensures many { 16 < empties stones.now → result ≡ Verdict.TooMany }
+// Whether a side to move can force that it connects, in a position where nobody has connected. More than 16 empty cells are too many.
+// The table may hold anything before and afterwards.
+pub fn can_force(position: &Grouped, side: Side, table: &mut [u8]) -> Verdict
+    requires { bytes_of_table position.now.size.n ≤ length table.old }
+    ensures right { Judges position.now.size.n (number side) position.now.stones.now position.now.parents.now position.now.borders.now result }
+    ensures many { 16 < empties position.now.stones.now → result ≡ Verdict.TooMany }
 {
-    let Some(cells) = links::number(size, stones) else {
+    let Some(cells) = position.number() else {
         return Verdict::TooMany;
     };
-    let mine = links::prepare(size, side, stones, parents, borders, &cells);
-    let theirs = links::prepare(size, side.opponent(), stones, parents, borders, &cells);
-    let ranking = Ranking::new(cells.count);
+    let mine = position.prepare(side, &cells);
+    let theirs = position.prepare(side.opponent(), &cells);
+    let ranking = Ranking::new(cells.len() as u32);
     // No more of the table is cleared than the positions take, four to a byte.
     let bytes = ranking.places().div_ceil(4);
     let found = look_through(&ranking, &mut table[..bytes], &mine, &theirs);
     if found.won {
-        return Verdict::Yes(cells.cells[lowest(found.step) as usize]);
+        return Verdict::Yes(cells[lowest(found.step) as usize]);
     }
     Verdict::No
 }

@@ -1,4 +1,4 @@
-use Rattle.std.proofs.Common.{◌≡◌, ◌+◌, arith}
+use Rattle.std.proofs.Common.{◌≡◌, ◌+◌, ◌*◌, arith}
 use Rattle.std.proofs.lemmas.Bool.Decides.{nat_tests}
 use Rattle.hexboard.specs.Geometry.{touch}
 use Rattle.hexboard.specs.Sides.{number}
@@ -11,5 +11,5 @@ returns c =
     let n = c.args.size.n in
     let s = number c.args.side in
     let i = c.args.cell in
-    let v : c.if-place-eq0.first + c.if-place-n.last ≡ touch n s i = grind (arith, nat_tests) in
+    let v : c.from.result + 2 * c.from-2.result ≡ touch n s i = grind (arith, nat_tests) in
     record { value = v; first = rw v (touch_first n s i); last = rw v (touch_last n s i); few = rw v (touch_few n s i) }

@@ -1,16 +1,12 @@
-use Rattle.std.proofs.Common.{◌<◌, ◌≤◌, length, arith}
+use Rattle.std.proofs.Common.{◌≡◌, eqb, sym, ◌∙◌, refl, arith, rules}
+use Rattle.std.specs.List.{count_by}
+use Rattle.std.proofs.lemmas.List.Recursion.{is_count_by}
 use Rattle.std.proofs.lemmas.Bool.Decides.{nat_tests}
-use Rattle.hexboard.proofs.Boards.{empties_from, empties_past}
+use Rattle.hexboard.specs.Board.{empties}
 use Rattle.hexboard.proofs.stones.count_empty.Goals as goal
 
-pub loop-byte-preserved : goal.loop-byte-preserved
-loop-byte-preserved c =
-    let h : c.loop-byte.byte-index < length c.args.cells.now = omega arith in
-    let e = empties_from c.args.cells.now c.loop-byte.byte-index h in
-    grind (arith, nat_tests)
-
 pub returns : goal.returns
+unfolding empties
 returns c =
-    let h : length c.args.cells.now ≤ c.loop-byte.byte-index = omega arith in
-    let e = empties_past c.args.cells.now c.loop-byte.byte-index h in
-    record { value = omega arith }
+    let e : c.count.result ≡ count_by (λ x. eqb x 0) c.args.cells.now = search rules in
+    record { value = e ∙ sym (is_count_by empties (λ x. eqb x 0) refl (λ x xs. grind (arith, nat_tests)) c.args.cells.now) }

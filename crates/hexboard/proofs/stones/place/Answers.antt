@@ -1,29 +1,19 @@
-use Rattle.std.proofs.Common.{◌≡◌, ◌<◌, length, get_or, set, ap, arith}
-use Rattle.std.proofs.lemmas.List.{set_past}
-use Rattle.std.proofs.lemmas.Bool.Decides.{nat_tests}
+use Rattle.std.proofs.Common.{◌≡◌, get_or, arith}
 use Rattle.hexboard.specs.Geometry.{laid}
-use Rattle.hexboard.specs.Sides.{number}
 use Rattle.hexboard.proofs.Boards.{good_set, number_few, empties_set, set_back}
 use Rattle.hexboard.proofs.stones.place.Goals as goal
 
-pub returns-then-index-cells : goal.returns-then-index-cells
-returns-then-index-cells c =
-    let e = set_past c.args.cells.now c.args.cell (number c.args.side) c.if-index-cells.true in
-    record { value = grind (arith, nat_tests); after = grind (arith, nat_tests); good = λ n g. g; fewer = λ o. grind arith; back = λ o. grind arith }
+pub returns-in-Some-eq0-clause-good : goal.returns-in-Some-eq0-clause-good
+returns-in-Some-eq0-clause-good c = λ n. good_set (laid n c.args.cells.now) c.from.result c.from-index.result (omega (arith, number_few c.args.side))
 
-pub returns : goal.returns
-returns c =
-    let cs = c.args.cells.now in
-    let i = c.args.cell in
-    let s = number c.args.side in
-    let v : set cs i c.number.result ≡ set cs i s = ap (set cs i) c.number.ensures in
+pub returns-in-Some-eq0-clause-fewer : goal.returns-in-Some-eq0-clause-fewer
+returns-in-Some-eq0-clause-fewer c =
+    let found = c.in-Some-eq0.ensures.lookup in
     let few = number_few c.args.side in
-    let inside : i < length cs = omega arith in
-    let none : get_or cs i 0 ≡ 0 = omega arith in
-    record {
-      value = grind (arith, nat_tests);
-      after = grind (arith, nat_tests);
-      good = λ n g. rw v (good_set (laid n cs) s i few.1 g);
-      fewer = λ _. rw v (empties_set cs i s inside none few.0);
-      back = λ _. rw v (set_back cs i s none);
-    }
+    λ _. empties_set c.args.cells.now c.from-index.result c.from.result found.3.0 (omega (arith, found.3.1 0)) (omega arith)
+
+pub returns-in-Some-eq0-clause-back : goal.returns-in-Some-eq0-clause-back
+returns-in-Some-eq0-clause-back c =
+    let found = c.in-Some-eq0.ensures.lookup in
+    let none : get_or c.args.cells.now c.from-index.result 0 ≡ 0 = omega (arith, found.3.1 0) in
+    λ _. simp (← c.from-index.ensures) (set_back c.args.cells.now c.from-index.result c.from.result none)

@@ -1,18 +1,17 @@
-use Rattle.std.proofs.Common.{ℕ, List, get_or, ap, arith}
-use Rattle.hexboard.proofs.TwoBytes.{inside, outside, word_set, write_past}
+use Rattle.std.proofs.Common.{◌∙◌, arith}
+use Rattle.std.proofs.lemmas.Bool.Decides.{nat_tests}
+use Rattle.hexboard.proofs.TwoBytes.{words_length, word_put, write_past}
 use Rattle.hexboard.proofs.words.set_word.Goals as goal
 
 pub returns-then-at-bytes : goal.returns-then-at-bytes
-returns-then-at-bytes c = record {
-  told = outside c.args.bytes.now c.args.place (omega arith);
-  after = write_past c.args.bytes.now c.args.place _ (omega arith);
-}
+returns-then-at-bytes c =
+    let n = words_length c.args.bytes.now in
+    record { told = grind (arith, nat_tests); after = write_past c.args.bytes.now c.args.place _ (omega arith) }
 
 pub returns : goal.returns
 returns c =
-    let low = ap (λ (bs : List ℕ). get_or bs 0 0) c.to_le_bytes.ensures in
-    let high = ap (λ (bs : List ℕ). get_or bs 1 0) c.to_le_bytes.ensures in
+    let n = words_length c.args.bytes.now in
     record {
-      told = inside c.args.bytes.now c.args.place (omega arith);
-      after = word_set c.args.bytes.now c.args.place _ _ _ (omega arith) (omega arith);
+      told = grind (arith, nat_tests);
+      after = word_put c.args.bytes.now c.args.place _ _ _ _ _ c.copy_from_slice.new.self (omega arith) (omega arith) (omega arith) (c.copy_from_slice.ensures.after ∙ c.to_le_bytes.ensures) (omega arith);
     }

@@ -23,13 +23,12 @@ returns-else-eq c = record {
   served = not_refused_no;
 }
 
+pub invariant_of-position : goal.invariant_of-position
+invariant_of-position c =
+    let (log, h) = c.requires.holds in record { whole = stones_long c.args.game _ h ∙ ap (λ s. s.n * s.n) (sym c.size.ensures) }
+
 pub can_force-requires : goal.can_force-requires
-can_force-requires c =
-    let (log, h) = c.requires.holds in
-    record {
-      long = stones_long c.args.game _ h ∙ ap (λ s. s.n * s.n) (sym c.size.ensures);
-      room = subst (λ s. bytes_of_table s.n ≤ length c.args.scratch.now) (sym c.size.ensures) c.requires.room;
-    }
+can_force-requires c = subst (λ s. bytes_of_table s.n ≤ length c.args.scratch.now) (sym c.size.ensures) c.requires.room
 
 -- nobody has won
 nobody : (c : After-can_force) → won_by c.args.game.winner ≡ 0

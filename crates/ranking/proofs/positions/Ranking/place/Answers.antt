@@ -1,4 +1,4 @@
-use Rattle.std.proofs.Common.{◌+◌, arith, rules}
+use Rattle.std.proofs.Common.{◌+◌, arith}
 use lib.Count.{ones}
 use Rattle.ranking.proofs.Ranks.{walk_none, walk_few, walk_more, walk_all, place_small, stones_few}
 use Rattle.ranking.proofs.positions.Ranking.place.Goals as goal
@@ -14,7 +14,7 @@ loop-k-init c =
 
 pub before-place-requires : goal.before-place-requires
 before-place-requires c =
-    let few = walk_few c.loop-k.invariant in record { long = search rules; rows = c.args.self.now.rows; few = omega arith }
+    let few = walk_few c.loop-k.invariant in omega arith
 
 pub overflow_add-place-in-loop-k : goal.overflow_add-place-in-loop-k
 overflow_add-place-in-loop-k c =

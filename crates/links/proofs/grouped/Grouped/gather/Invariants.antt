@@ -1,0 +1,9 @@
+use Rattle.std.proofs.Common.{◌≡◌}
+use Rattle.hexboard.specs.Sides.{number}
+use Rattle.links.specs.Gathering.{gathered}
+use Rattle.links.specs.Grouped.{board, parents}
+use Rattle.links.proofs.grouped.Grouped.gather.Given as goal
+
+-- the cells before the k-th have been gathered
+abbrev pub invariant-loop-k : goal.invariant-loop-k
+invariant-loop-k l = l.sets ≡ gathered (board l.self) (number l.side) (parents l.self) l.cells.items l.k

@@ -1,0 +1,12 @@
+use Rattle.std.proofs.Common.{get_or}
+use Rattle.hexboard.specs.Sides.{number}
+use Rattle.links.specs.Gathering.{near_at, borders_at}
+use Rattle.links.specs.Grouped.{board, parents}
+use Rattle.links.proofs.Preparing.{Preparing}
+use Rattle.links.proofs.grouped.Grouped.prepare.Given as goal
+
+abbrev pub invariant-loop-k : goal.invariant-loop-k
+invariant-loop-k l =
+    Preparing (λ k. near_at (board l.self) (number l.side) (parents l.self) l.sets (get_or l.cells.items k 0))
+    (λ k. borders_at (board l.self) (number l.side) (parents l.self) l.self.borders.now (get_or l.cells.items k 0))
+    l.k l.near l.first l.last

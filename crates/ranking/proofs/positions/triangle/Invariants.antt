@@ -1,6 +1,0 @@
-use Rattle.std.proofs.Common.{◌≡◌, length}
-use Rattle.ranking.specs.Triangle.{Rows}
-use Rattle.ranking.proofs.positions.triangle.Given as goal
-
-abbrev pub invariant-loop-i : goal.invariant-loop-i
-invariant-loop-i l = (length l.rows ≡ 289) × Rows l.i l.rows
