@@ -3,6 +3,7 @@
 
 #[cfg(test)]
 mod tests {
+    use groups::Groups;
     use hexboard::{Side, Size};
     use links::Grouped;
     use std::alloc::{AllocError, Global};
@@ -21,11 +22,11 @@ mod tests {
         let stones = &mut stones[..cells];
         let parents = &mut parents[..2 * cells];
         let borders = &mut borders[..cells];
-        groups::clear(size, parents, borders);
+        Groups { parents, borders }.clear(size);
         let mut side = Side::One;
         for cell in moves {
             let _ = hexboard::place(stones, side, *cell);
-            groups::place(size, stones, side, *cell, parents, borders);
+            Groups { parents, borders }.place(size, stones, side, *cell);
             side = side.opponent();
         }
         let position = Grouped {

@@ -1,8 +1,7 @@
-pub mod Bytes
 pub mod Climbs
 pub mod Chains
 pub mod Marks
-pub mod Groups
+pub mod Joining
 pub mod Placing
 pub mod Spanning
 pub mod Ways

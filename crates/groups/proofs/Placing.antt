@@ -2,13 +2,14 @@
 use Rattle.std.proofs.Common.{◌≡◌, ℕ, zero, suc, ◌+◌, ◌<◌, Bool, true, eqb, ◌≢◌, ◌⊎◌, List, length, get_or, set, Some, None, Option, sym, refl, ap, ◌∙◌, subst, subst₂, inl, inr, ⊎_elim, add-one, arith}
 use Rattle.std.proofs.lemmas.List.{length-set, get_or-set_same, get_or-set_other, get_or_past}
 use Rattle.std.proofs.lemmas.Bool.{cases_eq, cases_lt, eq-eqb, ne_eqb}
+use Rattle.std.proofs.lemmas.Option.{none-some}
 use Rattle.hexboard.specs.Board.{pick, Board, at, put}
 use Rattle.hexboard.specs.Rows.{Chain, here, Stone}
 use Rattle.groups.specs.Forest.{Forest, parent, root, join, take_in, adopt, alone}
 use Rattle.groups.proofs.Chains.{last_own, carried}
 use Rattle.groups.proofs.Climbs.{Rooted, climb_root}
 use Rattle.groups.proofs.Marks.{Has}
-use Rattle.groups.proofs.Groups.{Groups, now_met, join_meets}
+use Rattle.groups.proofs.Joining.{Groups, now_met, join_meets}
 
 -- stones of one side stand on cells i and j, which are near each other
 abbrev pub Touching : (ℕ → ℕ → Bool) → Board → ℕ → ℕ → Type 0
@@ -18,15 +19,26 @@ Touching near b i j = (t : ℕ) × (t ≢ 0) × Stone b t i × Stone b t j × (n
 abbrev pub Grouped : (ℕ → ℕ → Bool) → (ℕ → ℕ → ℕ) → Board → Forest → Type 0
 Grouped near bits b f = Groups near bits b (Touching near b) f
 
--- No neighbour has been looked at, or one more.
+-- No neighbour has been looked at.
 pub adopt_none : (b : Board) (s x : ℕ) (next : ℕ → Option ℕ) (f : Forest) → f ≡ adopt b s x next 0 f
 unfolding adopt
 adopt_none b s x next f = refl
 
-pub adopt_more : (b : Board) (s x : ℕ) (next : ℕ → Option ℕ) (k : ℕ) (f h new : Forest) →
-    h ≡ adopt b s x next k f → new ≡ take_in b s x (next k) h → new ≡ adopt b s x next (k + 1) f
-unfolding adopt
-adopt_more b s x next k f h new e t = rw add-one (t ∙ ap (take_in b s x (next k)) e)
+-- The first k have been looked at, and one more is: there is none, it is a stone of side s, or it is not.
+module _ (b : Board) (s x : ℕ) (next : ℕ → Option ℕ) (k : ℕ) (f h : Forest) (so_far : h ≡ adopt b s x next k f) where
+  adopt_more : (o : Option ℕ) (new : Forest) → next k ≡ o → new ≡ take_in b s x o h → new ≡ adopt b s x next (k + 1) f
+  unfolding adopt
+  adopt_more o new e t = rw (add-one, e) (t ∙ ap (take_in b s x o) so_far)
+
+  pub adopt_end : next k ≡ None → h ≡ adopt b s x next (k + 1) f
+  adopt_end e = adopt_more None h e refl
+
+  pub adopt_stone : (y r : ℕ) (new : Forest) → next k ≡ Some y → at b y ≡ s → r ≡ root h.parents y → new ≡ join r x h → new ≡ adopt b s x next (k + 1) f
+  adopt_stone y r new e is up t =
+      adopt_more (Some y) new e (t ∙ ap (λ q. join q x h) up ∙ ap (λ c. pick c (join (root h.parents y) x h) h) (sym (eq-eqb (at b y) s is)))
+
+  pub adopt_other : (y : ℕ) → next k ≡ Some y → (at b y ≡ s → ⊥) → h ≡ adopt b s x next (k + 1) f
+  adopt_other y e isnt = adopt_more (Some y) h e (ap (λ c. pick c (join (root h.parents y) x h) h) (sym (ne_eqb (at b y) s isnt)))
 
 -- Only what lies next to x is looked at: boards that are the same there are the same to it.
 pub adopt_alike : (b c : Board) (s x : ℕ) (next : ℕ → Option ℕ) → ((k y : ℕ) → next k ≡ Some y → at b y ≡ at c y) →
@@ -39,12 +51,9 @@ adopt_alike b c s x next same (suc m) f = look (next m) refl ∙ ap (take_in c s
     look None e = refl
     look (Some y) e = ap (λ v. pick (eqb v s) (join (root (adopt b s x next m f).parents y) x (adopt b s x next m f)) (adopt b s x next m f)) (same m y e)
 
--- What an option holds it holds once, and nothing is not something.
+-- What an option holds it holds once.
 some_once : {i j : ℕ} → Some i ≡ Some j → i ≡ j
 some_once e = cc
-
-none_some : {j : ℕ} → None ≡ Some j → ⊥
-none_some {j} h = let z : ◌≡◌ {A = ℕ} 0 1 = cc in omega arith
 
 -- Only cells of the board hold stones.
 pub stone_here : (b : Board) (s y : ℕ) → s ≢ 0 → at b y ≡ s → Stone b s y
@@ -165,7 +174,7 @@ module _ (b : Board) (s x : ℕ) (side : s ≢ 0) (on : x < length b.cells) (fre
               (cases_eq k m)
 
       one_more : (m : ℕ) (h : Forest) (o : Option ℕ) → next m ≡ o → Growing m h → Growing (suc m) (take_in b s x o h)
-      one_more m h None e w = nothing_new m h (λ y q _. none_some (sym e ∙ q)) w
+      one_more m h None e w = nothing_new m h (λ y q _. none-some y (sym e ∙ q)) w
       one_more m h (Some y) e w =
           ⊎_elim
           (λ is. subst (λ t. Growing (suc m) (pick t (join (root h.parents y) x h) h)) (sym (eq-eqb (at b y) s is)) (one_met m y h e (stone_here b s y side is) w))

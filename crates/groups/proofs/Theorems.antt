@@ -4,11 +4,11 @@ use Rattle.std.proofs.lemmas.Bool.Decides.{Decides-like, Decides-at, Decides-eqb
 use Rattle.hexboard.specs.Board.{other, Connects}
 use Rattle.hexboard.specs.Geometry.{laid}
 use Rattle.hexboard.proofs.Neighbours.{next_symmetric}
-use Rattle.groups.specs.Forest.{Forest, held, root, place, lift}
+use Rattle.groups.specs.Forest.{Forest, root, place, lift}
 use Rattle.groups.specs.Moves.{Position, start, moved, is_free, position_of, board_of, turn_of, forest_of, Legal, HeldAround}
 use Rattle.groups.specs.Meaning.{JustIf, Both, Together, Joined, Open, OneByteDecides, BackAgain, KeptOnce}
 use Rattle.groups.specs.Meaning.{OneMore, OneFewer, TellsRows, TellsWinner}
-use Rattle.groups.proofs.Bytes.{same_bytes}
+use Rattle.hexboard.proofs.TwoBytes.{same_bytes}
 use Rattle.groups.proofs.Spanning.{same_root, spans, byte_decides, other_as_before}
 use Rattle.groups.proofs.Ways.{connects}
 use Rattle.groups.proofs.Positions.{Sound, no_empty, other_side, of_both, free_parts, moved_top, moved_sound, moved_back}
@@ -89,13 +89,13 @@ joins_either n ms cells x f (inr after) =
     ∙ place_alike (board_of n ms) (turn_of n ms) (turn_of n ms) x f
 
 -- Memory that keeps the groups of the moves keeps those of the moves with one more after a stone has come,
-pub memory_grows : (n : ℕ) (cells : List ℕ) (s x : ℕ) (ps bs ps' bs' : List ℕ) → held ps' bs' ≡ place (laid n cells) s x (held ps bs) → OneMore n cells s x ps bs ps' bs'
-memory_grows n cells s x ps bs ps' bs' e ms around turn kept =
+pub memory_grows : (n : ℕ) (cells : List ℕ) (s x : ℕ) (f f' : Forest) → f' ≡ place (laid n cells) s x f → OneMore n cells s x f f'
+memory_grows n cells s x f f' e ms around turn kept =
     e ∙ (λ i. place (laid n cells) (turn i) x (kept i)) ∙ joins_either n ms cells x (forest_of n ms) around ∙ sym (forest_push n ms x)
 
 -- and those of the moves without the last after its stone has been taken out.
-pub memory_back : (n x : ℕ) (ps bs ps' bs' : List ℕ) → held ps' bs' ≡ lift (n * n) x (held ps bs) → OneFewer n x ps bs ps' bs'
-memory_back n x ps bs ps' bs' e ms legal kept = e ∙ ap (lift (n * n) x) kept ∙ back_again n ms x legal
+pub memory_back : (n x : ℕ) (f f' : Forest) → f' ≡ lift (n * n) x f → OneFewer n x f f'
+memory_back n x f f' e ms legal kept = e ∙ ap (lift (n * n) x) kept ∙ back_again n ms x legal
 
 pub kept_once : KeptOnce
 kept_once n ms ps bs qs cs p q kept again =

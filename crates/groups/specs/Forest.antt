@@ -2,7 +2,7 @@
 use Rattle.std.specs.Prelude.{ℕ, zero, suc, List, length, Some, None, Option, ◌==◌, bit_or, slice_index, slice_index_or, slice_set}
 use Rattle.hexboard.specs.Board.{pick, Board, at}
 use Rattle.hexboard.specs.Geometry.{neighbour_of, touch}
-use Rattle.groups.specs.Words.{words}
+use Rattle.hexboard.specs.Words.{words}
 
 -- For each cell its parent, and borders of its side as two bits, 1 for the first and 2 for the last. A root is its own parent, and
 -- has the bits of the borders that its group touches; another stone keeps those that it had when it was a root. An empty cell is its

@@ -1,4 +1,4 @@
-pub mod Words
 pub mod Forest
 pub mod Moves
 pub mod Meaning
+pub mod Lent

@@ -56,16 +56,16 @@ abbrev pub KeptOnce : Type 0
 KeptOnce =
     (n : ℕ) (ms ps bs qs cs : List ℕ) → Bytes n ps → Bytes n qs → Kept n ms ps bs → Kept n ms qs cs → (ps ≡ qs) × (bs ≡ cs)
 
--- What the functions on lent memory tell. The memory is ps for the parents and bs for the bits, and primed after a call.
+-- What the functions on lent memory tell. The memory holds forest f, and f' after a call.
 
 -- The memory keeps the groups of the moves with one more to x, if it kept those of the moves, whose side to move is s.
-abbrev pub OneMore : ℕ → List ℕ → ℕ → ℕ → List ℕ → List ℕ → List ℕ → List ℕ → Type 0
-OneMore n cells s x ps bs ps' bs' =
-    (ms : List ℕ) → HeldAround n ms x cells → s ≡ turn_of n ms → Kept n ms ps bs → Kept n (ms ++ (x ∷ [])) ps' bs'
+abbrev pub OneMore : ℕ → List ℕ → ℕ → ℕ → Forest → Forest → Type 0
+OneMore n cells s x f f' =
+    (ms : List ℕ) → HeldAround n ms x cells → s ≡ turn_of n ms → f ≡ forest_of n ms → f' ≡ forest_of n (ms ++ (x ∷ []))
 
 -- The memory keeps the groups of the moves without the last, to x, if it kept those of the moves.
-abbrev pub OneFewer : ℕ → ℕ → List ℕ → List ℕ → List ℕ → List ℕ → Type 0
-OneFewer n x ps bs ps' bs' = (ms : List ℕ) → Legal n (ms ++ (x ∷ [])) → Kept n (ms ++ (x ∷ [])) ps bs → Kept n ms ps' bs'
+abbrev pub OneFewer : ℕ → ℕ → Forest → Forest → Type 0
+OneFewer n x f f' = (ms : List ℕ) → Legal n (ms ++ (x ∷ [])) → f ≡ forest_of n (ms ++ (x ∷ [])) → f' ≡ forest_of n ms
 
 -- Of two stones of a side, r says whether a row of its stones leads from one to the other.
 abbrev pub TellsRows : List ℕ → ℕ → ℕ → Bool → Type 0

@@ -2,58 +2,77 @@
 #![tactic(auto)]
 
 ghost use Rattle.std.specs.Prelude.{◌≡◌, ℕ, ◌*◌, ◌%◌, [], length, ◌==◌, slice_index, slice_set};
-ghost use Rattle.hexboard.specs.Geometry.{neighbour_of, laid};
+ghost use Rattle.hexboard.specs.Geometry.{laid};
 ghost use Rattle.hexboard.specs.Sides.{number};
-ghost use Rattle.groups.specs.Words.{words};
-ghost use Rattle.groups.specs.Forest.{held, parent, root, join, take_in, place, lift};
-ghost use Rattle.groups.specs.Moves.{Kept};
+ghost use Rattle.hexboard.specs.Words.{words};
+ghost use Rattle.groups.specs.Forest.{held, parent, root, join, place, lift};
+ghost use Rattle.groups.specs.Moves.{forest_of};
+ghost use Rattle.groups.specs.Lent.{before, after};
 ghost use Rattle.groups.specs.Meaning.{Together, Joined, OneByteDecides, BackAgain, KeptOnce};
 ghost use Rattle.groups.specs.Meaning.{OneMore, OneFewer, TellsRows, TellsWinner};
 
 use hexboard::{Side, Size};
 
-// Each stone has a parent in its group, a later stone, or is the group's root: its last stone, which is its own parent. `parents` holds
-// two bytes for each cell, low byte first. `borders` holds a byte for each cell, whose bits at a root say which borders the group
-// touches: 1 for the first, 2 for the last. `cells` holds the stones: 0, 1 or 2.
-
-// Makes the memory that of a board without stones.
-pub fn clear(size: Size, parents: &mut [u8], borders: &mut [u8])
-    ensures { length parents.old ≡ size.n * size.n * 2 → length borders.old ≡ size.n * size.n → Kept size.n [] parents.new borders.new }
-{
-    for each in 0..size.cells() {
-        hang(parents, each, each);
-        write(borders, each, 0);
-    }
+// The groups of a board in lent memory. Each stone has a parent in its group, a later stone, or is the group's root: its last stone,
+// which is its own parent. `parents` holds two bytes for each cell, low byte first. `borders` holds a byte for each cell, whose bits
+// at a root say which borders the group touches: 1 for the first, 2 for the last.
+pub struct Groups<'a> {
+    pub parents: &'a mut [u8],
+    pub borders: &'a mut [u8],
 }
 
-// A stone of the side to move comes to an empty cell, and takes in the groups next to it. `cells` may hold the stone already or not.
-pub fn place(
-    size: Size,
-    cells: &[u8],
-    side: Side,
-    cell: u16,
-    parents: &mut [u8],
-    borders: &mut [u8],
-)
-    ensures value { held parents.new borders.new ≡ place (laid size.n cells.now) (number side) cell (held parents.old borders.old) }
-    ensures grows { OneMore size.n cells.now (number side) cell parents.old borders.old parents.new borders.new }
-{
-    write(borders, cell, hexboard::borders(size, side, cell));
-    for k in 0..6 {
-        take_in(size, cells, side, cell, k, parents, borders);
-    }
-}
-
-// The last stone is taken out: the groups that it took in are apart again, and every byte is as it was before it came.
-pub fn lift(size: Size, cell: u16, parents: &mut [u8], borders: &mut [u8])
-    ensures value { held parents.new borders.new ≡ lift (size.n * size.n) cell (held parents.old borders.old) }
-    ensures back { OneFewer size.n cell parents.old borders.old parents.new borders.new }
-{
-    write(borders, cell, 0);
-    for below in 0..size.cells() {
-        if parent(parents, below) == cell {
-            hang(parents, below, below);
+impl Groups<'_> {
+    // Makes the memory that of a board without stones.
+    pub fn clear(self, size: Size)
+        ensures { length self.entry.parents.now ≡ size.n * size.n * 2 → length self.entry.borders.now ≡ size.n * size.n → after self.exit ≡ forest_of size.n [] }
+    {
+        let Groups { parents, borders } = self;
+        borders.fill(0);
+        for each in 0..size.cells() {
+            let _ = hexboard::set_word(parents, each, each);
         }
+    }
+
+    // A stone of the side to move comes to an empty cell, and takes in the groups next to it. `cells` may hold the stone already or not.
+    pub fn place(self, size: Size, cells: &[u8], side: Side, cell: u16)
+        ensures value { after self.exit ≡ place (laid size.n cells.now) (number side) cell (before self.entry) }
+        ensures grows { OneMore size.n cells.now (number side) cell (before self.entry) (after self.exit) }
+    {
+        let Groups { parents, borders } = self;
+        write(borders, cell, hexboard::borders(size, side, cell));
+        for k in 0..hexboard::directions() {
+            let Some(near) = hexboard::neighbour(size, cell, k) else {
+                continue;
+            };
+            if hexboard::stone(cells, near) == Some(side) {
+                let top = root(parents, near);
+                Groups { parents, borders }.join(top, cell);
+            }
+        }
+    }
+
+    // The last stone is taken out: the groups that it took in are apart again, and every byte is as it was before it came.
+    pub fn lift(self, size: Size, cell: u16)
+        ensures value { after self.exit ≡ lift (size.n * size.n) cell (before self.entry) }
+        ensures back { OneFewer size.n cell (before self.entry) (after self.exit) }
+    {
+        let Groups { parents, borders } = self;
+        write(borders, cell, 0);
+        for below in 0..size.cells() {
+            if parent(parents, below) == cell {
+                let _ = hexboard::set_word(parents, below, below);
+            }
+        }
+    }
+
+    // The group of a root hangs from a cell now, which touches what either touched.
+    fn join(self, top: u16, cell: u16)
+        ensures { after self.exit ≡ join top cell (before self.entry) }
+    {
+        let Groups { parents, borders } = self;
+        let bits = touched(borders, cell) | touched(borders, top);
+        write(borders, cell, bits);
+        let _ = hexboard::set_word(parents, top, cell);
     }
 }
 
@@ -87,14 +106,14 @@ pub fn touches_both(borders: &[u8], cell: u16) -> bool
     ensures value { result ≡ (slice_index borders.now cell % 4 == 3) }
     ensures decides { TellsWinner borders.now cell result }
 {
-    read(borders, cell) % 4 == 3
+    touched(borders, cell) % 4 == 3
 }
 
 // The borders that the group of a root touches, as two bits: 1 for the first, 2 for the last.
 pub fn touched(borders: &[u8], group: u16) -> u8
     ensures { result ≡ slice_index borders.now group }
 {
-    read(borders, group)
+    borders.get(usize::from(group)).copied().unwrap_or(0)
 }
 
 // What groups mean, for every legal list of moves. There is nothing to run.
@@ -106,147 +125,113 @@ pub fn groups_have_meaning()
     ensures told { KeptOnce }
 {}
 
-// Looks at the k-th neighbour of a cell: a stone of the side brings its group.
-fn take_in(
-    size: Size,
-    cells: &[u8],
-    side: Side,
-    cell: u16,
-    k: u8,
-    parents: &mut [u8],
-    borders: &mut [u8],
-)
-    ensures { held parents.new borders.new ≡ take_in (laid size.n cells.now) (number side) cell (neighbour_of size.n cell k) (held parents.old borders.old) }
-{
-    let Some(near) = hexboard::neighbour(size, cell, k) else {
-        return;
-    };
-    if read(cells, near) == side.number() {
-        let top = root(parents, near);
-        join(top, cell, parents, borders);
-    }
-}
-
-// The group of a root hangs from a cell now, which touches what either touched.
-fn join(top: u16, cell: u16, parents: &mut [u8], borders: &mut [u8])
-    ensures { held parents.new borders.new ≡ join top cell (held parents.old borders.old) }
-{
-    let bits = read(borders, cell) | read(borders, top);
-    write(borders, cell, bits);
-    hang(parents, top, cell);
-}
-
 // The parent of a cell. A cell that is not there is its own.
 fn parent(parents: &[u8], cell: u16) -> u16
     ensures { result ≡ parent (words parents.now) cell }
 {
-    let low = cell as usize * 2;
-    if low + 1 >= parents.len() {
-        return cell;
-    }
-    u16::from_le_bytes([parents[low], parents[low + 1]])
-}
-
-// Writes the parent of a cell; nothing for a cell that is not there.
-fn hang(parents: &mut [u8], cell: u16, above: u16)
-    ensures { words parents.new ≡ slice_set (words parents.old) cell above }
-{
-    let at = cell as usize * 2;
-    if at + 1 >= parents.len() {
-        return;
-    }
-    let [low, high] = above.to_le_bytes();
-    parents[at] = low;
-    parents[at + 1] = high;
-}
-
-// The byte of a cell; 0 for a cell that is not there.
-fn read(bytes: &[u8], cell: u16) -> u8
-    ensures { result ≡ slice_index bytes.now cell }
-{
-    let at = cell as usize;
-    if at < bytes.len() { bytes[at] } else { 0 }
+    hexboard::word(parents, cell).unwrap_or(cell)
 }
 
 // Writes the byte of a cell; nothing for a cell that is not there.
-fn write(bytes: &mut [u8], cell: u16, byte: u8)
-    ensures { bytes.new ≡ slice_set bytes.old cell byte }
+fn write(borders: &mut [u8], cell: u16, bits: u8)
+    ensures { borders.new ≡ slice_set borders.old cell bits }
 {
-    let at = cell as usize;
-    if at < bytes.len() {
-        bytes[at] = byte;
+    // By its index: after `get_mut` a proof knows how long a slice is, and not what it holds.
+    let at = usize::from(cell);
+    if at < borders.len() {
+        borders[at] = bits;
     }
 }
 
 #[cfg(test)]
 mod tests {
     use super::*;
+    use hexboard::Unplaced;
     use std::test::Fail;
 
-    // A stone comes to the board and to its groups.
-    fn play(
+    // A board three wide with its groups.
+    #[derive(Drop)]
+    struct Board {
         size: Size,
-        cells: &mut [u8],
-        side: Side,
-        cell: u16,
-        parents: &mut [u8],
-        borders: &mut [u8],
-    ) {
-        write(cells, cell, side.number());
-        place(size, cells, side, cell, parents, borders);
+        cells: [u8; 9],
+        parents: [u8; 18],
+        borders: [u8; 9],
+    }
+
+    impl Board {
+        // The board without stones, in memory that held sevens.
+        fn new() -> Board {
+            let size = Size::new(3).unwrap();
+            let mut parents = [7; 18];
+            let mut borders = [7; 9];
+            Groups {
+                parents: &mut parents,
+                borders: &mut borders,
+            }
+            .clear(size);
+            Board {
+                size,
+                cells: [0; 9],
+                parents,
+                borders,
+            }
+        }
+
+        // A stone comes to the board and to its groups.
+        fn play(&mut self, side: Side, cell: u16) -> Result<(), Unplaced> {
+            hexboard::place(&mut self.cells, side, cell)?;
+            Groups {
+                parents: &mut self.parents,
+                borders: &mut self.borders,
+            }
+            .place(self.size, &self.cells, side, cell);
+            Ok(())
+        }
     }
 
     // One stone in the middle joins three groups around it, from the top row to the bottom row; taken out, it leaves no trace.
     #[test]
     fn three_groups_joined_and_apart_again(rt: HostRuntime) -> Result<(), Fail> {
-        let Some(size) = Size::new(3) else {
-            assert!(rt; false);
-            return Ok(());
-        };
-        let mut cells = [0; 9];
-        let mut parents = [7; 18];
-        let mut borders = [7; 9];
-        clear(size, &mut parents, &mut borders);
-        play(size, &mut cells, Side::One, 1, &mut parents, &mut borders);
-        play(size, &mut cells, Side::Two, 0, &mut parents, &mut borders);
-        play(size, &mut cells, Side::One, 5, &mut parents, &mut borders);
-        play(size, &mut cells, Side::Two, 8, &mut parents, &mut borders);
-        play(size, &mut cells, Side::One, 6, &mut parents, &mut borders);
+        let mut board = Board::new();
+        board.play(Side::One, 1)?;
+        board.play(Side::Two, 0)?;
+        board.play(Side::One, 5)?;
+        board.play(Side::Two, 8)?;
+        board.play(Side::One, 6)?;
         assert!(rt;
-            !same_group(&parents, 1, 5)
-                && !same_group(&parents, 5, 6)
-                && !same_group(&parents, 1, 6)
+            !same_group(&board.parents, 1, 5)
+                && !same_group(&board.parents, 5, 6)
+                && !same_group(&board.parents, 1, 6)
         );
-        let parents_before = parents;
-        let borders_before = borders;
-        play(size, &mut cells, Side::One, 4, &mut parents, &mut borders);
+        let parents_before = board.parents;
+        let borders_before = board.borders;
+        board.play(Side::One, 4)?;
         assert!(rt;
-            same_group(&parents, 1, 5) && same_group(&parents, 5, 6) && !same_group(&parents, 0, 8)
+            same_group(&board.parents, 1, 5)
+                && same_group(&board.parents, 5, 6)
+                && !same_group(&board.parents, 0, 8)
         );
-        assert!(rt; touches_both(&borders, 4));
-        lift(size, 4, &mut parents, &mut borders);
-        assert_eq!(rt; parents, parents_before);
-        assert_eq!(rt; borders, borders_before);
+        assert!(rt; touches_both(&board.borders, 4));
+        Groups {
+            parents: &mut board.parents,
+            borders: &mut board.borders,
+        }
+        .lift(board.size, 4);
+        assert_eq!(rt; board.parents, parents_before);
+        assert_eq!(rt; board.borders, borders_before);
         Ok(())
     }
 
     // The last cell of a row and the first of the next have numbers next to each other, and do not touch.
     #[test]
     fn apart_across_the_end_of_a_row(rt: HostRuntime) -> Result<(), Fail> {
-        let Some(size) = Size::new(3) else {
-            assert!(rt; false);
-            return Ok(());
-        };
-        let mut cells = [0; 9];
-        let mut parents = [7; 18];
-        let mut borders = [7; 9];
-        clear(size, &mut parents, &mut borders);
-        play(size, &mut cells, Side::One, 2, &mut parents, &mut borders);
-        play(size, &mut cells, Side::One, 3, &mut parents, &mut borders);
-        assert!(rt; !same_group(&parents, 2, 3));
-        play(size, &mut cells, Side::One, 1, &mut parents, &mut borders);
-        assert!(rt; same_group(&parents, 2, 3));
-        assert!(rt; !touches_both(&borders, 1));
+        let mut board = Board::new();
+        board.play(Side::One, 2)?;
+        board.play(Side::One, 3)?;
+        assert!(rt; !same_group(&board.parents, 2, 3));
+        board.play(Side::One, 1)?;
+        assert!(rt; same_group(&board.parents, 2, 3));
+        assert!(rt; !touches_both(&board.borders, 1));
         Ok(())
     }
 }

@@ -1,5 +1,5 @@
 // Numbers of two bytes each in lent bytes, low byte first.
-ghost use Rattle.std.specs.Prelude.{◌≡◌, ℕ, length, slice_set};
+ghost use Rattle.std.specs.Prelude.{◌≡◌, ℕ, ◌*◌, ◌<◌, length, drop, slice_set};
 ghost use Rattle.hexboard.specs.Words.{words, word_of, room_at};
 
 // The number at a place, where there is one.
@@ -15,6 +15,7 @@ pub fn word(bytes: &[u8], place: u16) -> Option<u16>
 pub fn set_word(bytes: &mut [u8], place: u16, value: u16) -> Option<()>
     ensures told { result ≡ room_at bytes.old place }
     ensures after { words bytes.new ≡ slice_set (words bytes.old) place value }
+    ensures behind { (k : ℕ) → place < k → drop (2 * k) bytes.new ≡ drop (2 * k) bytes.old }
 {
     let at = usize::from(place) * 2;
     if at + 2 > bytes.len() {

@@ -1,11 +1,10 @@
 -- Each move fills a cell: how many moves there are, how many cells are empty, and whose turn it is.
-use Rattle.std.proofs.Common.{◌≡◌, ℕ, zero, suc, ◌+◌, ◌*◌, ◌%◌, ◌<◌, true, eqb, ◌⊎◌, List, [], ◌∷◌, length, sym, refl, ◌∙◌, inl, arith}
+use Rattle.std.proofs.Common.{◌≡◌, ℕ, zero, suc, ◌+◌, ◌*◌, ◌%◌, ◌<◌, true, eqb, ◌⊎◌, List, [], ◌∷◌, length, refl, ◌∙◌, inl, arith}
 use Rattle.std.proofs.lemmas.Bool.Decides.{nat_tests}
 use Rattle.hexboard.specs.Board.{pick, all_cells, empties, other}
-use Rattle.hexboard.specs.Geometry.{laid}
 use Rattle.theorems.proofs.Stones.{one_fewer, empty_counts}
 use Rattle.groups.specs.Moves.{Position, start, moved, is_free, is_fair, played, board_of, turn_of, Legal}
-use Rattle.groups.proofs.Positions.{Sound, free_parts, moved_sound, other_side, start_sound}
+use Rattle.groups.proofs.Positions.{Sound, free_parts, moved_sound, other_side, start_sound, played_wide}
 
 -- so many empty cells are empty
 all_empty : (k : ℕ) → empties (all_cells k) ≡ k
@@ -45,14 +44,5 @@ pub turn_by_count : (n : ℕ) (ms : List ℕ) → turn_of n ms ≡ pick (eqb (le
 turn_by_count n ms = turns (start n) ms (inl refl)
 
 -- the board stays as wide as it was
-wide_on : (p : Position) (ms : List ℕ) → (played p ms).board.wide ≡ p.board.wide
-unfolding played
-wide_on p [] = refl
-wide_on p (x ∷ ms) = wide_on (moved p x) ms
-
 pub board_wide : (n : ℕ) (ms : List ℕ) → (board_of n ms).wide ≡ n
-board_wide n ms = wide_on (start n) ms
-
--- the board of the moves is the one that its cells make
-pub board_laid : (n : ℕ) (ms cells : List ℕ) → cells ≡ (board_of n ms).cells → laid n cells ≡ board_of n ms
-board_laid n ms cells e = λ i. record { wide = sym (board_wide n ms) i; cells = e i }
+board_wide n ms = played_wide (start n) ms

@@ -1,5 +1,6 @@
 -- Each answer to a move and to a take-back is the right one by the rules.
-use Rattle.std.proofs.Common.{◌≡◌, ℕ, ◌+◌, ◌*◌, ◌%◌, ◌<◌, ◌≤◌, true, eqb, ◌≢◌, ◌⊎◌, List, [], ◌∷◌, ◌++◌, length, get_or, take, set, sym, ap, ◌∙◌, subst, ⊎_elim, arith}
+use Rattle.std.proofs.Common.{◌≡◌, ℕ, ◌+◌, ◌*◌, ◌%◌, ◌<◌, ◌≤◌, Bool, true, false, eqb, ◌≢◌, ◌⊎◌, List, [], ◌∷◌, ◌++◌, length, get_or, take, set, sym, refl, ap, ◌∙◌, subst, ⊎_elim, arith}
+use Rattle.std.specs.Bool.{then_some}
 use Rattle.std.proofs.lemmas.List.{length_push, take_more_set}
 use Rattle.std.proofs.lemmas.Bool.Decides.{nat_tests}
 use Rattle.hexboard.specs.Board.{pick, at, is_way, Connects}
@@ -13,10 +14,11 @@ use Rattle.hexboard.proofs.TwoBytes.{words_length}
 use Rattle.groups.specs.Forest.{held}
 use Rattle.groups.specs.Moves.{is_free, board_of, turn_of, forest_of}
 use Rattle.groups.specs.Meaning.{Open}
+use Rattle.groups.proofs.Positions.{board_laid}
 use Rattle.history.specs.Played.{game_of, Played, winner_of, Kept}
 use Rattle.history.specs.Holds.{won_by, Memory, moves_in, formal, Holds, Served}
 use Rattle.history.specs.declared.game.Game.{Game}
-use Rattle.history.proofs.Filling.{room, turn_by_count, board_laid}
+use Rattle.history.proofs.Filling.{room, turn_by_count}
 use Rattle.history.proofs.Keeping.{played_more, kept_more}
 use Rattle.history.proofs.Turns.{game_push, winner_open, winner_won, winner_push}
 
@@ -24,6 +26,11 @@ use Rattle.history.proofs.Turns.{game_push, winner_open, winner_won, winner_push
 pub some_side : (side : Side) → number side ≢ 0
 some_side One = omega arith
 some_side Two = omega arith
+
+-- a side that has won by a test
+pub won_then : (t : Bool) (side : Side) → won_by (then_some t side) ≡ pick t (number side) 0
+won_then true side = refl
+won_then false side = refl
 
 -- where nobody has connected nobody has won
 pub not_won : (g : games.Game) → Open g.board → games.Won g → ⊥

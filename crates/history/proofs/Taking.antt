@@ -1,12 +1,12 @@
 -- A move is taken back: what the game and the memory are afterwards, and that this is right. And a new game.
-use Rattle.std.proofs.Common.{◌≡◌, ℕ, zero, suc, ◌+◌, ◌-◌, ◌*◌, ◌<◌, true, List, [], ◌∷◌, ◌++◌, length, get_or, take, set, is_some, Some, None, Option, sym, refl, ap, ◌∙◌, subst, ⊎_elim, arith}
-use Rattle.std.proofs.lemmas.List.{length_push, length-set, length-take-le, take_more, take-set}
+use Rattle.std.proofs.Common.{◌≡◌, ℕ, ◌+◌, ◌-◌, ◌*◌, ◌<◌, true, List, [], ◌∷◌, ◌++◌, length, get_or, take, set, replicate, is_some, Some, None, Option, sym, refl, ap, ◌∙◌, subst, ⊎_elim, arith}
+use Rattle.std.proofs.lemmas.List.{length_push, length-replicate, length-set, length-take-le, take_more, take-set}
 use Rattle.std.proofs.lemmas.Bool.{cases_eq, lt-ltb}
 use Rattle.hexboard.specs.Board.{pick, all_cells, Connects}
 use Rattle.hexboard.specs.Games as games
 use Rattle.hexboard.specs.Words.{words, word_of}
-use Rattle.hexboard.proofs.Boards.{length_all_cells}
-use Rattle.hexboard.proofs.TwoBytes.{words_length}
+use Rattle.hexboard.proofs.Boards.{all_cells_replicate}
+use Rattle.hexboard.proofs.TwoBytes.{words_length, words_zeros}
 use Rattle.groups.specs.Forest.{held}
 use Rattle.groups.specs.Moves.{start, played, is_fair, board_of, turn_of, forest_of, Legal}
 use Rattle.groups.specs.Meaning.{Open}
@@ -108,17 +108,9 @@ module _ (g : Game) (m : Memory) (now-held : Holds g m) (last : ℕ) (one : last
         same_size = size;
       }
 
--- zeros, two by two, are zeros
-words_zero : (k : ℕ) → words (all_cells (k * 2)) ≡ all_cells k
-unfolding all_cells
-words_zero zero = refl
-words_zero (suc k) =
-    let twice : suc k * 2 ≡ suc (suc (k * 2)) = omega arith in
-    ap (λ j. words (all_cells j)) twice ∙ ap (λ (xs : List ℕ). 0 ∷ xs) (words_zero k)
-
 -- cleared memory holds every game by value without moves
 pub new_held : (n : ℕ) (g : Game) (m : Memory) → g.size.n ≡ n → g.count ≡ 0 → won_by g.winner ≡ 0 → m.stones ≡ all_cells (n * n) →
-    m.log ≡ all_cells (n * n * 2) → held m.parents m.borders ≡ forest_of n [] → length m.parents ≡ n * n * 2 →
+    m.log ≡ replicate (n * n * 2) 0 → held m.parents m.borders ≡ forest_of n [] → length m.parents ≡ n * n * 2 →
     Holds g m × (formal g m ≡ games.new_game n)
 unfolding played is_fair
 new_held n g m size none nobody stones log groups parents =
@@ -127,8 +119,8 @@ new_held n g m size none nobody stones log groups parents =
       holds_by g m n [] size moves (sym none) (record { legal = refl; before = λ k l. absurd (omega arith) })
           (record {
             stones_are = stones;
-            log_is = ap words log ∙ (words_zero (n * n) ∙ ap all_cells (sym all));
-            log_long = ap length log ∙ length_all_cells (n * n * 2);
+            log_is = ap words log ∙ (words_zeros (n * n) ∙ (all_cells_replicate (n * n) ∙ ap all_cells (sym all)));
+            log_long = ap length log ∙ length-replicate (n * n * 2) 0;
             groups_are = groups;
             parents_long = parents;
           }) nobody,

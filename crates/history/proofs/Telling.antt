@@ -36,33 +36,33 @@ moves_tell g h m k bm bk p q e =
 -- what a move and a take-back that were answered by a number have led to
 made_then : {g h : games.Game} {c : games.Call} {a : games.Answer} → games.Right g c a h → (x n : ℕ) → c ≡ games.moves x → a ≡ games.number n →
     (h ≡ games.after g (games.moves x)) × (x < length g.board.cells) × (at g.board x ≡ 0)
-made_then (games.no_cell p) x n e f = let z : ◌≡◌ {A = ℕ} 0 1 = cc in absurd (omega arith)
-made_then (games.is_over p w) x n e f = let z : ◌≡◌ {A = ℕ} 0 1 = cc in absurd (omega arith)
-made_then (games.taken p w q) x n e f = let z : ◌≡◌ {A = ℕ} 0 1 = cc in absurd (omega arith)
+made_then (games.no_cell p) x n e f = absurd cc
+made_then (games.is_over p w) x n e f = absurd cc
+made_then (games.taken p w q) x n e f = absurd cc
 made_then {g} (games.made {i = i} p w q) x n e f =
     let same : i ≡ x = cc in (ap (λ j. games.after g (games.moves j)) same, subst (λ j. j < length g.board.cells) same p, subst (λ j. at g.board j ≡ 0) same q)
-made_then (games.none_made p) x n e f = let z : ◌≡◌ {A = ℕ} 0 1 = cc in absurd (omega arith)
-made_then (games.gone_back p) x n e f = let z : ◌≡◌ {A = ℕ} 0 1 = cc in absurd (omega arith)
-made_then (games.by_way s w p q r) x n e f = let z : ◌≡◌ {A = ℕ} 0 1 = cc in absurd (omega arith)
-made_then (games.nobody w) x n e f = let z : ◌≡◌ {A = ℕ} 0 1 = cc in absurd (omega arith)
-made_then (games.forced i p w q r) x n e f = let z : ◌≡◌ {A = ℕ} 0 1 = cc in absurd (omega arith)
-made_then (games.has_it c) x n e f = let z : ◌≡◌ {A = ℕ} 0 1 = cc in absurd (omega arith)
-made_then (games.not_forced p) x n e f = let z : ◌≡◌ {A = ℕ} 0 1 = cc in absurd (omega arith)
-made_then (games.many p w) x n e f = let z : ◌≡◌ {A = ℕ} 0 1 = cc in absurd (omega arith)
+made_then (games.none_made p) x n e f = absurd cc
+made_then (games.gone_back p) x n e f = absurd cc
+made_then (games.by_way s w p q r) x n e f = absurd cc
+made_then (games.nobody w) x n e f = absurd cc
+made_then (games.forced i p w q r) x n e f = absurd cc
+made_then (games.has_it c) x n e f = absurd cc
+made_then (games.not_forced p) x n e f = absurd cc
+made_then (games.many p w) x n e f = absurd cc
 
 back_then : {g h : games.Game} {c : games.Call} {a : games.Answer} → games.Right g c a h → (n : ℕ) → c ≡ games.back → a ≡ games.number n → h ≡ games.after g games.back
-back_then (games.no_cell p) n e f = let z : ◌≡◌ {A = ℕ} 0 1 = cc in absurd (omega arith)
-back_then (games.is_over p w) n e f = let z : ◌≡◌ {A = ℕ} 0 1 = cc in absurd (omega arith)
-back_then (games.taken p w q) n e f = let z : ◌≡◌ {A = ℕ} 0 1 = cc in absurd (omega arith)
-back_then (games.made p w q) n e f = let z : ◌≡◌ {A = ℕ} 0 1 = cc in absurd (omega arith)
-back_then (games.none_made p) n e f = let z : ◌≡◌ {A = ℕ} 0 1 = cc in absurd (omega arith)
+back_then (games.no_cell p) n e f = absurd cc
+back_then (games.is_over p w) n e f = absurd cc
+back_then (games.taken p w q) n e f = absurd cc
+back_then (games.made p w q) n e f = absurd cc
+back_then (games.none_made p) n e f = absurd cc
 back_then (games.gone_back p) n e f = refl
-back_then (games.by_way s w p q r) n e f = let z : ◌≡◌ {A = ℕ} 0 1 = cc in absurd (omega arith)
-back_then (games.nobody w) n e f = let z : ◌≡◌ {A = ℕ} 0 1 = cc in absurd (omega arith)
-back_then (games.forced i p w q r) n e f = let z : ◌≡◌ {A = ℕ} 0 1 = cc in absurd (omega arith)
-back_then (games.has_it c) n e f = let z : ◌≡◌ {A = ℕ} 0 1 = cc in absurd (omega arith)
-back_then (games.not_forced p) n e f = let z : ◌≡◌ {A = ℕ} 0 1 = cc in absurd (omega arith)
-back_then (games.many p w) n e f = let z : ◌≡◌ {A = ℕ} 0 1 = cc in absurd (omega arith)
+back_then (games.by_way s w p q r) n e f = absurd cc
+back_then (games.nobody w) n e f = absurd cc
+back_then (games.forced i p w q r) n e f = absurd cc
+back_then (games.has_it c) n e f = absurd cc
+back_then (games.not_forced p) n e f = absurd cc
+back_then (games.many p w) n e f = absurd cc
 
 pub back_to_the_byte : BackToTheByte
 back_to_the_byte g h j m k l x a b bm bl held-now there back =

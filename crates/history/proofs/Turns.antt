@@ -1,13 +1,15 @@
 -- One move more, and one move back: what becomes of the game, its board and who has won.
-use Rattle.std.proofs.Common.{◌≡◌, ℕ, ◌*◌, ◌%◌, ◌<◌, true, false, eqb, ◌≢◌, ◌⊎◌, List, [], ◌∷◌, ◌++◌, length, get_or, set, sym, refl, ap, ◌∙◌, subst, inl, inr, ⊎_elim, arith}
-use Rattle.std.proofs.lemmas.List.{length_push, take_at, set-set, set-get_or}
+use Rattle.std.proofs.Common.{◌≡◌, ℕ, ◌%◌, ◌<◌, true, false, eqb, ◌≢◌, ◌⊎◌, List, [], ◌∷◌, ◌++◌, length, get_or, sym, refl, ap, ◌∙◌, subst, inl, inr, ⊎_elim, arith}
+use Rattle.std.proofs.lemmas.List.{length_push, take_at}
 use Rattle.std.proofs.lemmas.Bool.Decides.{nat_tests}
-use Rattle.hexboard.specs.Board.{pick, Board, at, is_way, Connects, empty, put, other}
+use Rattle.hexboard.specs.Board.{pick, Connects, put, other}
 use Rattle.hexboard.specs.Games as games
-use Rattle.groups.specs.Moves.{Position, start, moved, is_free, played, position_of, board_of, turn_of, forest_of, Legal}
+use Rattle.hexboard.specs.Geometry.{laid}
+use Rattle.hexboard.proofs.Boards.{set_back}
+use Rattle.groups.specs.Moves.{Position, start, moved, is_free, position_of, board_of, turn_of, forest_of, Legal}
 use Rattle.groups.specs.Meaning.{JustIf, Both, Open}
-use Rattle.groups.proofs.Positions.{played_push, legal_last, legal_sound, free_parts, empty_at}
-use Rattle.groups.proofs.Theorems.{one_byte_decides}
+use Rattle.groups.proofs.Positions.{played_push, legal_last, legal_sound, free_parts}
+use Rattle.groups.proofs.Theorems.{one_byte_decides, open_at_first, open_still}
 use Rattle.history.specs.Played.{game_of, Played, winner_of}
 
 -- the last of a list that ends in x, and the list without it
@@ -34,13 +36,6 @@ game_push n ms x is =
     ap (λ t. pick {A = games.Game} t (game_at (moved (position_of n ms) x) (ms ++ x ∷ [])) (game_of n ms)) is ∙
     ap (λ p. game_at p (ms ++ x ∷ [])) (sym (played_push (start n) ms x))
 
--- a stone taken off the cell that it came to
-put_back : (b : Board) (s x : ℕ) → at b x ≡ 0 → put (put b s x) 0 x ≡ b
-put_back b s x e =
-    let same : set (set b.cells x s) x 0 ≡ b.cells =
-    set-set b.cells x s 0 ∙ (ap (set b.cells x) (sym e) ∙ set-get_or b.cells x 0) in
-    λ i. record { wide = b.wide; cells = same i }
-
 -- the side to move comes back after two moves
 other_other : (s : ℕ) → (s ≡ 1) ⊎ (s ≡ 2) → other (other s) ≡ s
 other_other s h = omega arith
@@ -59,20 +54,10 @@ game_back n ms x legal =
     ap (λ t. pick {A = games.Game} t (game_of n (ms ++ x ∷ [])) (taken (position_of n (ms ++ x ∷ [])))) some ∙
     (ap taken (played_push (start n) ms x) ∙
     λ i. record {
-      board = (ap (put (moved p x).board 0) (last_push 0 ms x) ∙ put_back p.board p.turn x (free_parts p.board x is).1) i;
+      board = (ap (put (moved p x).board 0) (last_push 0 ms x) ∙ ap (laid p.board.wide) (set_back p.board.cells x p.turn (free_parts p.board x is).1)) i;
       turn = other_other p.turn (legal_sound n ms before).side i;
       moves = but_last_push ms x i;
     })
-
--- nobody has a way on the empty board
-no_way : (n s : ℕ) → s ≢ 0 → (w : List ℕ) → is_way (empty n) s w ≡ true → ⊥
-unfolding is_way
-no_way n s side [] e = grind (arith, nat_tests)
-no_way n s side (i ∷ is) e = let none = empty_at (n * n) i in side (grind (arith, nat_tests))
-
-pub empty_open : (n : ℕ) → Open (board_of n [])
-unfolding played
-empty_open n = (λ c. no_way n 1 (omega arith) c.0 c.1, λ c. no_way n 2 (omega arith) c.0 c.1)
 
 -- a list is empty, or a list and one more
 pub by_last : (ms : List ℕ) → (ms ≡ []) ⊎ ((ks : List ℕ) × (x : ℕ) × (ms ≡ ks ++ x ∷ []))
@@ -114,11 +99,7 @@ module _ (n : ℕ) (ms : List ℕ) (x : ℕ) (h : Played n (ms ++ x ∷ [])) whe
   pushed_open e =
       let w = winner_push in
       let apart : Both byte → ⊥ = λ both. ⊎_elim (λ one. grind (arith, nat_tests)) (λ two. grind (arith, nat_tests)) mover_side in
-      let mine : Connects (board_of n (ms ++ x ∷ [])) mover → ⊥ = λ c. apart (decides.0.0 c) in
-      ⊎_elim
-      (λ one. (λ c. mine (subst (Connects (board_of n (ms ++ x ∷ []))) (sym one) c), λ c. decides.1 (subst (Connects (board_of n (ms ++ x ∷ []))) (sym (ap other one)) c)))
-      (λ two. (λ c. decides.1 (subst (Connects (board_of n (ms ++ x ∷ []))) (sym (ap other two)) c), λ c. mine (subst (Connects (board_of n (ms ++ x ∷ []))) (sym two) c)))
-      mover_side
+      open_still n ms x h.legal open_before apart
 
   pub pushed_won : (s : ℕ) → winner_of n (ms ++ x ∷ []) ≡ s → s ≢ 0 → Connects (board_of n (ms ++ x ∷ [])) s × ((s ≡ 1) ⊎ (s ≡ 2))
   pushed_won s e some =
@@ -129,7 +110,7 @@ module _ (n : ℕ) (ms : List ℕ) (x : ℕ) (h : Played n (ms ++ x ∷ [])) whe
 -- where nobody has won nobody has connected
 pub winner_open : (n : ℕ) (ms : List ℕ) → Played n ms → winner_of n ms ≡ 0 → Open (board_of n ms)
 winner_open n ms h e =
-    ⊎_elim (λ none. subst (λ (xs : List ℕ). Open (board_of n xs)) (sym none) (empty_open n))
+    ⊎_elim (λ none. subst (λ (xs : List ℕ). Open (board_of n xs)) (sym none) (open_at_first n))
     (λ l. subst (λ (xs : List ℕ). Open (board_of n xs)) (sym l.2)
     (pushed_open n l.0 l.1 (subst (Played n) l.2 h) (subst (λ (xs : List ℕ). winner_of n xs ≡ 0) l.2 e)))
     (by_last ms)

@@ -1,7 +1,6 @@
 // Games in lent memory: moves made and taken back.
 #![tactic(auto)]
 
-mod beginning;
 mod game;
 mod laws;
 mod moves;

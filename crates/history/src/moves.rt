@@ -6,6 +6,7 @@ ghost use Rattle.hexboard.specs.Sides.{number};
 ghost use Rattle.history.specs.Holds.{won_by, Long, lent, formal, Holds, Settled};
 
 use crate::game::Game;
+use groups::Groups;
 use hexboard::{Side, Size};
 use wire::Refusal;
 
@@ -21,7 +22,7 @@ pub fn make_move(
     requires { Holds game (lent stones.old log.old parents.old borders.old) }
     ensures { Settled game (lent stones.old log.old parents.old borders.old) (games.moves cell) (λ _. game.count) (lent stones.new log.new parents.new borders.new) result }
 {
-    let Some(standing) = standing(stones, cell) else {
+    let Some(&standing) = stones.get(usize::from(cell)) else {
         return Err(Refusal::NoCell);
     };
     let None = game.winner else {
@@ -31,13 +32,14 @@ pub fn make_move(
         return Err(Refusal::Taken);
     };
     let side = game.turn();
-    groups::place(game.size, stones, side, cell, parents, borders);
-    stones[cell as usize] = side.number();
+    Groups { parents, borders }.place(game.size, stones, side, cell);
+    stones[usize::from(cell)] = u8::from(side);
     let _ = hexboard::set_word(log, game.count, cell);
+    // Each field by name: `..game` is not covered for a struct with a ghost field.
     Ok(Game {
         size: game.size,
         count: game.count + 1,
-        winner: winner_by(side, cell, borders),
+        winner: groups::touches_both(borders, cell).then_some(side),
     })
 }
 
@@ -56,8 +58,8 @@ pub fn take_back(
         return Err(Refusal::NoMove);
     };
     let cell = hexboard::word(log, last).unwrap();
-    groups::lift(game.size, cell, parents, borders);
-    stones[cell as usize] = 0;
+    Groups { parents, borders }.lift(game.size, cell);
+    stones[usize::from(cell)] = 0;
     let _ = hexboard::set_word(log, last, 0);
     Ok(Game {
         size: game.size,
@@ -82,15 +84,24 @@ pub fn start(
 {
     hexboard::clear(stones);
     log.fill(0);
-    groups::clear(size, parents, borders);
-    Game {
-        size,
-        count: 0,
-        winner: None,
-    }
+    Groups { parents, borders }.clear(size);
+    Game::new(size)
 }
 
 impl Game {
+    // A game without moves. Memory that was made ready for the size holds it.
+    pub fn new(size: Size) -> Game
+        ensures size { result.size ≡ size }
+        ensures count { result.count ≡ 0 }
+        ensures nobody { won_by result.winner ≡ 0 }
+    {
+        Game {
+            size,
+            count: 0,
+            winner: None,
+        }
+    }
+
     // How large the board is.
     pub fn size(self) -> Size
         ensures { result ≡ self.size }
@@ -121,23 +132,5 @@ impl Game {
         } else {
             Side::Two
         }
-    }
-}
-
-// What a cell holds, where there is such a cell.
-fn standing(stones: &[u8], cell: u16) -> Option<u8>
-    ensures { MatchOption result (length stones.now ≤ cell) (λ byte. (cell < length stones.now) × (byte ≡ slice_index stones.now cell)) }
-{
-    stones.get(cell as usize).copied()
-}
-
-// The side has won by its last stone if the stone's group touches both borders.
-fn winner_by(side: Side, cell: u16, borders: &[u8]) -> Option<Side>
-    ensures { won_by result ≡ pick (slice_index borders.now cell % 4 == 3) (number side) 0 }
-{
-    if groups::touches_both(borders, cell) {
-        Some(side)
-    } else {
-        None
     }
 }

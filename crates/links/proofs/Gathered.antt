@@ -1,9 +1,9 @@
 -- The empty cells gathered by what they touch: steps as the code takes them, and what is in the sets.
-use Rattle.std.proofs.Common.{◌≡◌, ℕ, zero, suc, ◌+◌, ◌*◌, ◌^◌, ◌<◌, Bool, true, false, eqb, ◌≢◌, ◌⊎◌, List, length, get_or, replicate, Some, None, Option, sym, refl, ap, ap₂, ◌∙◌, subst, inl, inr, ⊎_elim, add-one, arith}
+use Rattle.std.proofs.Common.{◌≡◌, ℕ, zero, suc, ◌+◌, ◌*◌, ◌^◌, ◌<◌, true, eqb, ◌≢◌, ◌⊎◌, List, length, get_or, replicate, Some, None, Option, sym, refl, ap, ap₂, ◌∙◌, subst, inl, inr, ⊎_elim, add-one, arith}
 use lib.Bits.{bit_or}
 use Rattle.std.specs.Option.{option_map}
 use Rattle.std.proofs.lemmas.List.{length-set, length-replicate, get_or-set_same, get_or-set_other, set_past}
-use Rattle.std.proofs.lemmas.Bool.{cases_eq, cases_lt, eqb-true, eq-eqb}
+use Rattle.std.proofs.lemmas.Bool.{cases_eq, cases_lt, eq-eqb, ne_eqb}
 use Rattle.hexboard.specs.Board.{pick, Board, at, other, next_to}
 use Rattle.hexboard.specs.Geometry.{neighbour_of}
 use Rattle.hexboard.specs.Rows.{Stone}
@@ -104,6 +104,13 @@ module _ {S : Type 0} (look : Option ℕ → S → S) (next : ℕ → Option ℕ
       (λ apart. keeps (next m) _ (over_new keeps m s (d, omega arith, e) brings))
       (cases_eq d m)
 
+-- k is in the set of k alone, and nothing else is
+pub own_bit : (k : ℕ) → bit k (2 ^ k) ≡ 1
+own_bit k = ⊎_elim (λ p. p.1) (λ p. absurd (p.0 refl)) (bit_one k k)
+
+pub only_bit : (k j : ℕ) → bit j (2 ^ k) ≡ 1 → j ≡ k
+only_bit k j h = ⊎_elim (λ p. p.0) (λ p. absurd (omega (arith, p.1))) (bit_one k j)
+
 -- Once k has come into the set at place r, that at place q is as it was, or q is r and it has k too.
 entered : (k r : ℕ) (sets : List ℕ) (q : ℕ) →
     (get_or (enter k r sets) q 0 ≡ get_or sets q 0) ⊎ ((q ≡ r) × (get_or (enter k r sets) q 0 ≡ bit_or (get_or sets q 0) (2 ^ k)))
@@ -119,8 +126,7 @@ pub enter_only : (k r : ℕ) (sets : List ℕ) (q j : ℕ) → bit j (get_or (en
 enter_only k r sets q j h =
     ⊎_elim
     (λ e. inl (sym (ap (bit j) e) ∙ h))
-    (λ (same, e).
-    ⊎_elim inl (λ new. inr (⊎_elim (λ p. p.0) (λ p. absurd (omega (arith, p.1))) (bit_one k j), same)) (in_or j (get_or sets q 0) (2 ^ k) (sym (ap (bit j) e) ∙ h)))
+    (λ (same, e). ⊎_elim inl (λ new. inr (only_bit k j new, same)) (in_or j (get_or sets q 0) (2 ^ k) (sym (ap (bit j) e) ∙ h)))
     (entered k r sets q)
 
 pub enter_old : (k r : ℕ) (sets : List ℕ) (q j : ℕ) → bit j (get_or sets q 0) ≡ 1 → bit j (get_or (enter k r sets) q 0) ≡ 1
@@ -128,8 +134,7 @@ enter_old k r sets q j h =
     ⊎_elim (λ e. ap (bit j) e ∙ h) (λ (_, e). ap (bit j) e ∙ or_left j (get_or sets q 0) (2 ^ k) h) (entered k r sets q)
 
 pub enter_new : (k r : ℕ) (sets : List ℕ) → r < length sets → bit k (get_or (enter k r sets) r 0) ≡ 1
-enter_new k r sets l =
-    ap (bit k) (get_or-set_same sets r _ 0 l) ∙ or_right k (get_or sets r 0) (2 ^ k) (⊎_elim (λ p. p.1) (λ p. absurd (p.0 refl)) (bit_one k k))
+enter_new k r sets l = ap (bit k) (get_or-set_same sets r _ 0 l) ∙ or_right k (get_or sets r 0) (2 ^ k) (own_bit k)
 
 -- no set has anything at first
 pub nothing : (m q : ℕ) → get_or {A = ℕ} (replicate m 0) q 0 ≡ 0
@@ -150,37 +155,35 @@ module _ (b : Board) (w : ℕ) (side : w ≢ 0) (ps : List ℕ) where
   at_only : (k q j : ℕ) (o : Option ℕ) (sets : List ℕ) → bit j (get_or (entered_at b w ps k o sets) q 0) ≡ 1 →
       (bit j (get_or sets q 0) ≡ 1) ⊎ ((p : ℕ) × (o ≡ Some p) × ((j ≡ k) × (at b p ≡ w) × (root ps p ≡ q)))
   at_only k q j None sets h = inl h
-  at_only k q j (Some p) sets h = go (eqb (at b p) w) refl h
-    where
-      go : (t : Bool) → eqb (at b p) w ≡ t → bit j (get_or (pick t (enter k (root ps p) sets) sets) q 0) ≡ 1 →
-          (bit j (get_or sets q 0) ≡ 1) ⊎ ((y : ℕ) × (Some p ≡ Some y) × ((j ≡ k) × (at b y ≡ w) × (root ps y ≡ q)))
-      go true e h = ⊎_elim inl (λ (is, here). inr (p, refl, (is, eqb-true (at b p) w e, sym here))) (enter_only k (root ps p) sets q j h)
-      go false e h = inl h
+  at_only k q j (Some p) sets h = ⊎_elim
+      (λ e. ⊎_elim inl (λ (is, here). inr (p, refl, (is, e, sym here))) (enter_only k (root ps p) sets q j (rw (eq-eqb (at b p) w e) at h)))
+      (λ n. inl (rw (ne_eqb (at b p) w n) at h))
+      (cases_eq (at b p) w)
 
   at_old : (k q j : ℕ) (o : Option ℕ) (sets : List ℕ) → bit j (get_or sets q 0) ≡ 1 → bit j (get_or (entered_at b w ps k o sets) q 0) ≡ 1
   at_old k q j None sets h = h
-  at_old k q j (Some p) sets h = go (eqb (at b p) w)
-    where
-      go : (t : Bool) → bit j (get_or (pick t (enter k (root ps p) sets) sets) q 0) ≡ 1
-      go true = enter_old k (root ps p) sets q j h
-      go false = h
+  at_old k q j (Some p) sets h =
+      ⊎_elim (λ e. rw (eq-eqb (at b p) w e) (enter_old k (root ps p) sets q j h)) (λ n. rw (ne_eqb (at b p) w n) h) (cases_eq (at b p) w)
 
   at_long : (k : ℕ) (o : Option ℕ) (sets : List ℕ) → length sets ≡ 361 → length (entered_at b w ps k o sets) ≡ 361
   at_long k None sets h = h
-  at_long k (Some p) sets h = go (eqb (at b p) w)
-    where
-      go : (t : Bool) → length (pick t (enter k (root ps p) sets) sets) ≡ 361
-      go true = length-set sets (root ps p) _ ∙ h
-      go false = h
+  at_long k (Some p) sets h =
+      ⊎_elim (λ e. rw (eq-eqb (at b p) w e) (length-set sets (root ps p) _ ∙ h)) (λ n. rw (ne_eqb (at b p) w n) h) (cases_eq (at b p) w)
 
   at_new : (k p : ℕ) (sets : List ℕ) → at b p ≡ w → root ps p < length sets → bit k (get_or (entered_at b w ps k (Some p) sets) (root ps p) 0) ≡ 1
   at_new k p sets is l = rw (eq-eqb (at b p) w is) (enter_new k (root ps p) sets l)
 
-  pub gathered_long : (es : List ℕ) (m : ℕ) → length (gathered b w ps es m) ≡ 361
+  -- All neighbours of cell i are looked at: the sets are as many, and what was in one stays.
+  all_long : (k i : ℕ) (sets : List ℕ) (m : ℕ) → length sets ≡ 361 → length (over (entered_at b w ps k) (neighbour_of b.wide i) m (enter k i sets)) ≡ 361
+  all_long k i sets m h = over_old (entered_at b w ps k) (neighbour_of b.wide i) (λ s. length s ≡ 361) (at_long k) m _ (length-set sets i _ ∙ h)
+
+  all_old : (k i q j : ℕ) (sets : List ℕ) → bit j (get_or (enter k i sets) q 0) ≡ 1 → bit j (get_or (entered_all b w ps k i sets) q 0) ≡ 1
+  all_old k i q j sets h = over_old (entered_at b w ps k) (neighbour_of b.wide i) (λ s. bit j (get_or s q 0) ≡ 1) (at_old k q j) 6 _ h
+
+  gathered_long : (es : List ℕ) (m : ℕ) → length (gathered b w ps es m) ≡ 361
   unfolding gathered
   gathered_long es zero = length-replicate {A = ℕ} 361 0
-  gathered_long es (suc m) =
-      over_old (entered_at b w ps m) (neighbour_of b.wide (get_or es m 0)) (λ s. length s ≡ 361) (at_long m) 6 _ (length-set (gathered b w ps es m) (get_or es m 0) _ ∙ gathered_long es m)
+  gathered_long es (suc m) = all_long m (get_or es m 0) (gathered b w ps es m) 6 (gathered_long es m)
 
   -- The set at q has those of the cells that are q or lie next to the group of q,
   pub gathered_only : (es : List ℕ) (m q j : ℕ) → bit j (get_or (gathered b w ps es m) q 0) ≡ 1 → (j < m) × Meets b w ps q (get_or es j 0)
@@ -205,20 +208,16 @@ module _ (b : Board) (w : ℕ) (side : w ≢ 0) (ps : List ℕ) where
   gathered_all es square (suc m) q j small l on meets =
       ⊎_elim
       (λ is. subst (λ x. bit x (get_or (gathered b w ps es (suc m)) q 0) ≡ 1) (sym is) (newest q small (subst (λ x. get_or es x 0 < length b.cells) is on) (subst (λ x. Meets b w ps q (get_or es x 0)) is meets)))
-      (λ apart. over_old (entered_at b w ps m) (neighbour_of b.wide (get_or es m 0)) (λ s. bit j (get_or s q 0) ≡ 1) (at_old m q j) 6 _
-      (enter_old m (get_or es m 0) (gathered b w ps es m) q j (gathered_all es square m q j small (omega arith) on meets)))
+      (λ apart. all_old m (get_or es m 0) q j (gathered b w ps es m) (enter_old m (get_or es m 0) (gathered b w ps es m) q j (gathered_all es square m q j small (omega arith) on meets)))
       (cases_eq j m)
     where
-      long : (k : ℕ) → length (over (entered_at b w ps m) (neighbour_of b.wide (get_or es m 0)) k (enter m (get_or es m 0) (gathered b w ps es m))) ≡ 361
-      long k = over_old (entered_at b w ps m) (neighbour_of b.wide (get_or es m 0)) (λ s. length s ≡ 361) (at_long m) k _ (length-set (gathered b w ps es m) (get_or es m 0) _ ∙ gathered_long es m)
-
       newest : (q : ℕ) → q < 361 → get_or es m 0 < length b.cells → Meets b w ps q (get_or es m 0) →
           bit m (get_or (entered_all b w ps m (get_or es m 0) (gathered b w ps es m)) q 0) ≡ 1
       newest q small on (inl is) =
-          over_old (entered_at b w ps m) (neighbour_of b.wide (get_or es m 0)) (λ s. bit m (get_or s q 0) ≡ 1) (at_old m q m) 6 _
+          all_old m (get_or es m 0) q m (gathered b w ps es m)
           (subst (λ x. bit m (get_or (enter m (get_or es m 0) (gathered b w ps es m)) x 0) ≡ 1) is (enter_new m (get_or es m 0) (gathered b w ps es m) (omega (arith, gathered_long es m))))
       newest q small on (inr (p, near, stone, here)) =
-          let (d, l, e) = neighbour_all b.wide (get_or es m 0) p (omega arith) (omega (arith, stone.0)) near in
-          over_new (entered_at b w ps m) (neighbour_of b.wide (get_or es m 0)) (λ s. bit m (get_or s q 0) ≡ 1) (at_old m q m) 6 _ (d, l, e)
+          over_new (entered_at b w ps m) (neighbour_of b.wide (get_or es m 0)) (λ s. bit m (get_or s q 0) ≡ 1) (at_old m q m) 6 _
+          (neighbour_all b.wide (get_or es m 0) p (omega arith) (omega (arith, stone.0)) near)
           (λ k. subst (λ x. bit m (get_or (entered_at b w ps m (Some p) (over (entered_at b w ps m) (neighbour_of b.wide (get_or es m 0)) k (enter m (get_or es m 0) (gathered b w ps es m)))) x 0) ≡ 1) here
-          (at_new m p _ stone.1 (omega (arith, long k))))
+          (at_new m p _ stone.1 (omega (arith, all_long m (get_or es m 0) (gathered b w ps es m) k (gathered_long es m)))))

@@ -1,29 +1,28 @@
 -- The links of a side, prepared cell by cell: what the loop keeps, and that they tell what the stones make of the empty cells.
-use Rattle.std.proofs.Common.{◌≡◌, ℕ, ◌+◌, ◌*◌, ◌/◌, ◌%◌, ◌^◌, ◌<◌, ◌≤◌, Bool, true, false, eqb, ◌⊎◌, List, length, get_or, set, replicate, sym, refl, ap, ◌∙◌, subst, subst₂, inl, inr, ⊎_elim, mul-le-mul, arith}
+use Rattle.std.proofs.Common.{◌≡◌, ℕ, ◌+◌, ◌/◌, ◌%◌, ◌^◌, ◌<◌, ◌≤◌, Bool, true, false, eqb, ◌⊎◌, Decides, List, length, get_or, set, replicate, sym, refl, ap, ◌∙◌, subst, subst₂, inl, inr, ⊎_elim, mul-le-mul, arith}
 use lib.Bits.{bit_or}
 use Rattle.std.proofs.lemmas.List.{length-set, get_or-set_same, get_or-set_other}
 use Rattle.std.proofs.lemmas.Bool.{cases_eq, cases_lt, eqb-true, eq-eqb, both_ways}
 use Rattle.hexboard.specs.Board.{pick, Board, begins, ends}
-use Rattle.hexboard.specs.Geometry.{laid}
+use Rattle.hexboard.specs.Geometry.{laid, touch}
 use Rattle.hexboard.specs.Promise.{Good}
 use Rattle.hexboard.specs.Sides.{number}
 use Rattle.hexboard.specs.declared.side.Side.{Side}
 use Rattle.hexboard.specs.declared.side.Side.TheVariants.{One, Two}
-use Rattle.hexboard.proofs.Boards.{good_at}
 use Rattle.groups.specs.Forest.{Forest, held}
 use Rattle.groups.specs.Moves.{board_of, forest_of}
 use Rattle.groups.proofs.Marks.{Has}
 use Rattle.groups.proofs.Positions.{Holds, legal_sound, board_cells, board_good, board_laid}
 use Rattle.groups.proofs.Ways.{first_bit, last_bit}
 use Rattle.ranking.specs.Sets.{bit}
-use Rattle.ranking.proofs.Bits.{bit_none, bit_one, in_or, or_left, or_right}
+use Rattle.ranking.proofs.Bits.{bit_none, in_or, or_left, or_right}
 use Rattle.endgame.specs.declared.links.Links.{Links}
 use Rattle.endgame.specs.Ends.{Numbered}
 use Rattle.links.specs.Gathering.{gathered, near_at, borders_at}
-use Rattle.endgame.specs.Linked.{Linked}
+use Rattle.endgame.specs.Linked.{Linked, Bound}
 use Rattle.endgame.specs.Linked.{Holds as SetOf}
 use Rattle.links.specs.Prepared.{Prepared}
-use Rattle.links.proofs.Gathered.{nothing}
+use Rattle.links.proofs.Gathered.{nothing, own_bit, only_bit}
 use Rattle.links.proofs.Ties.{near_only, near_all, bound_only, bound_all}
 
 -- a side has number 1 or 2
@@ -40,10 +39,10 @@ set_more : (P : ℕ → Type 0) (m x : ℕ) (t : Bool) → SetOf m x P → (t �
 set_more P m x true h so only_so = record {
   only = λ k i. ⊎_elim
       (λ old. let (l, p) = h.only k old in (omega arith, p))
-      (λ new. ⊎_elim (λ q. (omega arith, subst P (sym q.0) (so refl))) (λ q. absurd (omega (arith, q.1))) (bit_one m k))
+      (λ new. let same = only_bit m k new in (omega arith, subst P (sym same) (so refl)))
       (in_or k x (2 ^ m) i);
   all = λ k l p. ⊎_elim
-      (λ same. or_right k x (2 ^ m) (⊎_elim (λ q. q.1) (λ q. absurd (q.0 same)) (bit_one m k)))
+      (λ same. or_right k x (2 ^ m) (rw same (own_bit m)))
       (λ apart. or_left k x (2 ^ m) (h.all k (omega arith) p))
       (cases_eq k m);
 }
@@ -90,22 +89,20 @@ linked : (b : Board) (f : Forest) → Holds b f → length b.cells ≤ 361 → G
     (l : Links) → Preparing (near_of b w f es) (borders_of b w f es) (length es) l.near l.first l.last → Linked b es w l
 linked b f g small good w side es num l h = record {
   near = λ k i. record {
-    only = λ j e. near_only b f g square small (λ p. good_at b p good) w side es num (get_or es k 0) (num.inside k i) j (sym (ap (bit j) (h.each k i)) ∙ e);
-    all = λ j m tie. ap (bit j) (h.each k i) ∙ near_all b f g square small (λ p. good_at b p good) w side es num (get_or es k 0) (num.inside k i) j m tie;
+    only = λ j e. near_only b f g small good w side es num (get_or es k 0) (num.inside k i) j (sym (ap (bit j) (h.each k i)) ∙ e);
+    all = λ j m tie. ap (bit j) (h.each k i) ∙ near_all b f g small good w side es num (get_or es k 0) (num.inside k i) j m tie;
   };
   beyond = λ k j e. ⊎_elim (λ i. i) (λ past. absurd (omega (arith, ap (bit j) (h.beyond k past), bit_none j))) (cases_lt k (length es));
-  first = record {
-    only = λ k e. let (i, has) = h.at_first.only k e in (i, bound_only b f g square small (λ p. good_at b p good) w side es num (get_or es k 0) (num.inside k i) 0 (begins b.wide w) (first_bit b.wide w) has);
-    all = λ k i is. h.at_first.all k i (bound_all b f g square small (λ p. good_at b p good) w side es num (get_or es k 0) (num.inside k i) 0 (begins b.wide w) (first_bit b.wide w) is);
-  };
-  last = record {
-    only = λ k e. let (i, has) = h.at_last.only k e in (i, bound_only b f g square small (λ p. good_at b p good) w side es num (get_or es k 0) (num.inside k i) 1 (ends b.wide w) (last_bit b.wide w) has);
-    all = λ k i is. h.at_last.all k i (bound_all b f g square small (λ p. good_at b p good) w side es num (get_or es k 0) (num.inside k i) 1 (ends b.wide w) (last_bit b.wide w) is);
-  };
+  first = bound 0 (begins b.wide w) (first_bit b.wide w) h.at_first;
+  last = bound 1 (ends b.wide w) (last_bit b.wide w) h.at_last;
 }
   where
-    square : length b.cells ≡ b.wide * b.wide
-    square = good.1
+    bound : (t : ℕ) (border : ℕ → Bool) → ((q : ℕ) → Decides (border q) (Has t (touch b.wide w q))) → {r : ℕ} → SetOf (length es) r (λ k. Has t (borders_of b w f es k)) →
+        SetOf (length es) r (λ k. Bound b w border (get_or es k 0))
+    bound t border tells set = record {
+      only = λ k e. let (i, has) = set.only k e in (i, bound_only b f g small good w side es num (get_or es k 0) (num.inside k i) t border tells has);
+      all = λ k i is. set.all k i (bound_all b f g small good w side es num (get_or es k 0) (num.inside k i) t border tells is);
+    }
 
 -- So it is for the moves whose board and groups the memory keeps.
 pub prepared : (n w : ℕ) → 0 < n → n ≤ 19 → (w ≡ 1) ⊎ (w ≡ 2) → (stones ps bs es : List ℕ) (l : Links) →

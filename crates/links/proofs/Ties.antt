@@ -1,11 +1,13 @@
 -- What lies around an empty cell, where the forest holds the groups of the board: the cells it is tied to, and the borders.
-use Rattle.std.proofs.Common.{◌≡◌, ℕ, ◌*◌, ◌/◌, ◌^◌, ◌<◌, ◌≤◌, Bool, true, false, eqb, ◌≢◌, ◌⊎◌, List, length, get_or, Some, None, Decides, Option, sym, refl, ap, ◌∙◌, subst, inl, inr, ⊎_elim, arith}
+use Rattle.std.proofs.Common.{◌≡◌, ℕ, ◌*◌, ◌/◌, ◌^◌, ◌<◌, ◌≤◌, Bool, true, ◌≢◌, ◌⊎◌, List, length, get_or, Some, None, Decides, Option, sym, refl, ap, ◌∙◌, subst, inl, inr, ⊎_elim, arith}
 use native.Mathlib.Nat.{zero-div}
 use lib.Bits.{bit_or}
-use Rattle.std.proofs.lemmas.Bool.{cases_eq, eqb-false, ne_eqb}
-use Rattle.hexboard.specs.Board.{pick, Board, at, other, next_to}
+use Rattle.std.proofs.lemmas.Bool.{cases_eq, eq-eqb, ne_eqb}
+use Rattle.hexboard.specs.Board.{Board, at, other, next_to}
 use Rattle.hexboard.specs.Geometry.{neighbour_of, touch}
+use Rattle.hexboard.specs.Promise.{Good}
 use Rattle.hexboard.specs.Rows.{Stone}
+use Rattle.hexboard.proofs.Boards.{good_at}
 use Rattle.hexboard.proofs.Neighbours.{neighbour_next, neighbour_all, next_symmetric}
 use Rattle.groups.specs.Forest.{Forest, root}
 use Rattle.groups.proofs.Chains.{first_own, last_own, and_then}
@@ -21,45 +23,55 @@ use Rattle.links.specs.Gathering.{over, gathered, joined_at, by_root, near_at, b
 use Rattle.endgame.specs.Linked.{Tied, direct, through, Bound, own, across}
 use Rattle.links.proofs.Gathered.{over_only, over_old, over_new, Meets, gathered_only, gathered_all}
 
--- What a neighbour adds to a set, for any way to tell what is in it: `In` holds of a union just if it holds of one of the two.
-module _ (b : Board) (w : ℕ) (ps : List ℕ) (f : ℕ → ℕ) (In : ℕ → Type 0) (either : (x y : ℕ) → In (bit_or x y) → In x ⊎ In y)
-    (left : (x y : ℕ) → In x → In (bit_or x y)) (right : (x y : ℕ) → In y → In (bit_or x y)) where
+-- A way to tell what is in a set: `In` holds of a union just if it holds of one of the two.
+record OfUnions (In : ℕ → Type 0) : Type 0 where
+  pub either : (x y : ℕ) → In (bit_or x y) → In x ⊎ In y
+  pub left : (x y : ℕ) → In x → In (bit_or x y)
+  pub right : (x y : ℕ) → In y → In (bit_or x y)
+
+bits : (j : ℕ) → OfUnions (λ x. bit j x ≡ 1)
+bits j = record { either = in_or j; left = or_left j; right = or_right j }
+
+border_bits : (t : ℕ) → OfUnions (Has t)
+border_bits t = record { either = has_either t; left = has_left t; right = has_right t }
+
+-- What a neighbour adds to a set.
+module _ (b : Board) (w : ℕ) (ps : List ℕ) (f : ℕ → ℕ) {In : ℕ → Type 0} (unions : OfUnions In) where
   join_only : (o : Option ℕ) (x : ℕ) → In (joined_at b w ps f o x) → In x ⊎ ((p : ℕ) × (o ≡ Some p) × ((at b p ≢ other w) × In (f (root ps p))))
   join_only None x h = inl h
-  join_only (Some p) x h = go (eqb (at b p) (other w)) refl h
-    where
-      go : (t : Bool) → eqb (at b p) (other w) ≡ t → In (pick t x (bit_or x (f (root ps p)))) →
-          In x ⊎ ((y : ℕ) × (Some p ≡ Some y) × ((at b y ≢ other w) × In (f (root ps y))))
-      go true e h = inl h
-      go false e h = ⊎_elim inl (λ new. inr (p, refl, (eqb-false (at b p) (other w) e, new))) (either x (f (root ps p)) h)
+  join_only (Some p) x h = ⊎_elim
+      (λ e. inl (rw (eq-eqb (at b p) (other w) e) at h))
+      (λ n. ⊎_elim inl (λ new. inr (p, refl, (n, new))) (unions.either x (f (root ps p)) (rw (ne_eqb (at b p) (other w) n) at h)))
+      (cases_eq (at b p) (other w))
 
   join_old : (o : Option ℕ) (x : ℕ) → In x → In (joined_at b w ps f o x)
   join_old None x h = h
-  join_old (Some p) x h = go (eqb (at b p) (other w))
-    where
-      go : (t : Bool) → In (pick t x (bit_or x (f (root ps p))))
-      go true = h
-      go false = left x (f (root ps p)) h
+  join_old (Some p) x h = ⊎_elim
+      (λ e. rw (eq-eqb (at b p) (other w) e) h)
+      (λ n. rw (ne_eqb (at b p) (other w) n) (unions.left x (f (root ps p)) h))
+      (cases_eq (at b p) (other w))
 
   -- Around cell i: what was there at first, and what the roots of the neighbours have that are not of the other side.
-  pub around_only : (i x : ℕ) → In (over (joined_at b w ps f) (neighbour_of b.wide i) 6 x) →
+  around_only : (i x : ℕ) → In (over (joined_at b w ps f) (neighbour_of b.wide i) 6 x) →
       In x ⊎ ((p : ℕ) × (next_to b.wide i p ≡ true) × (at b p ≢ other w) × In (f (root ps p)))
   around_only i x h =
       ⊎_elim inl (λ (p, (d, _, e), (isnt, has)). inr (p, neighbour_next b.wide i d p e, isnt, has))
       (over_only (joined_at b w ps f) (neighbour_of b.wide i) In (λ p. (at b p ≢ other w) × In (f (root ps p))) join_only 6 x h)
 
-  pub around_old : (i x : ℕ) → In x → In (over (joined_at b w ps f) (neighbour_of b.wide i) 6 x)
+  around_old : (i x : ℕ) → In x → In (over (joined_at b w ps f) (neighbour_of b.wide i) 6 x)
   around_old i x h = over_old (joined_at b w ps f) (neighbour_of b.wide i) In join_old 6 x h
 
-  pub around_new : (i x p : ℕ) → i < b.wide * b.wide → p < b.wide * b.wide → next_to b.wide i p ≡ true → at b p ≢ other w → In (f (root ps p)) →
+  around_new : (i x p : ℕ) → i < b.wide * b.wide → p < b.wide * b.wide → next_to b.wide i p ≡ true → at b p ≢ other w → In (f (root ps p)) →
       In (over (joined_at b w ps f) (neighbour_of b.wide i) 6 x)
   around_new i x p l m near isnt h =
       over_new (joined_at b w ps f) (neighbour_of b.wide i) In join_old 6 x (neighbour_all b.wide i p l m near)
-      (λ k. rw (ne_eqb (at b p) (other w) isnt) (right _ (f (root ps p)) h))
+      (λ k. rw (ne_eqb (at b p) (other w) isnt) (unions.right _ (f (root ps p)) h))
 
 -- A board of at most 361 cells, the groups of its stones, and its empty cells numbered.
-module _ (b : Board) (f : Forest) (g : Holds b f) (square : length b.cells ≡ b.wide * b.wide) (small : length b.cells ≤ 361)
-    (good : (i : ℕ) → at b i < 3) (w : ℕ) (side : (w ≡ 1) ⊎ (w ≡ 2)) (es : List ℕ) (num : Numbered b es) where
+module _ (b : Board) (f : Forest) (g : Holds b f) (small : length b.cells ≤ 361) (good : Good b) (w : ℕ) (side : (w ≡ 1) ⊎ (w ≡ 2)) (es : List ℕ) (num : Numbered b es) where
+  square : length b.cells ≡ b.wide * b.wide
+  square = good.1
+
   abbrev ps : List ℕ
   ps = f.parents
 
@@ -73,7 +85,7 @@ module _ (b : Board) (f : Forest) (g : Holds b f) (square : length b.cells ≡ b
   sorted : (p : ℕ) → at b p ≢ other w → ((at b p ≡ 0) × (root ps p ≡ p)) ⊎ Stone b w p
   sorted p isnt = ⊎_elim
       (λ none. inl (none, climb_root ps (length ps) p (g.lone p none).0))
-      (λ some. inr (stone_here b w p a_side (omega (arith, good p))))
+      (λ some. inr (stone_here b w p a_side (omega (arith, good_at b p good))))
       (cases_eq (at b p) 0)
 
   -- the root of a stone is a stone
@@ -100,13 +112,13 @@ module _ (b : Board) (f : Forest) (g : Holds b f) (square : length b.cells ≡ b
     near_only j h = ⊎_elim
         (λ none. absurd (omega (arith, bit_none j)))
         (λ (p, near, isnt, has). let (l, meets) = gathered_only b w a_side ps es (length es) (root ps p) j has in (l, tied p j l near (sorted p isnt) meets))
-        (around_only b w ps (by_root sets) (λ x. bit j x ≡ 1) (in_or j) (or_left j) (or_right j) i 0 h)
+        (around_only b w ps (by_root sets) (bits j) i 0 h)
 
     -- whatever it meets at the root of a neighbour is near
     meets_near : (p j : ℕ) → j < length es → next_to b.wide i p ≡ true → p < length b.cells → at b p ≢ other w → root ps p < length b.cells →
         Meets b w ps (root ps p) (get_or es j 0) → bit j (near_at b w ps sets i) ≡ 1
     meets_near p j l near inside isnt top meets =
-        around_new b w ps (by_root sets) (λ x. bit j x ≡ 1) (in_or j) (or_left j) (or_right j) i 0 p (omega arith) (omega arith) near isnt
+        around_new b w ps (by_root sets) (bits j) i 0 p (omega (arith, square)) (omega (arith, square)) near isnt
         (gathered_all b w a_side ps es square (length es) (root ps p) j (omega arith) l (num.inside j l) meets)
 
     pub near_all : (j : ℕ) → j < length es → Tied b w i (get_or es j 0) → bit j (near_at b w ps sets i) ≡ 1
@@ -128,15 +140,15 @@ module _ (b : Board) (f : Forest) (g : Holds b f) (square : length b.cells ≡ b
         (λ (none, top). absurd (no_bit (get_or f.borders (root ps p) 0) (ap (λ q. get_or f.borders q 0) top ∙ (g.lone p none).1) has))
         (λ o. let (q, row, touches) = g.seen w (root ps p) t a_side (root_stone p o) has in across near (and_then (next_to b.wide) (g.hangs w p a_side o) row) ((tells q).1 touches))
         (sorted p isnt))
-        (around_only b w ps (by_root f.borders) (Has t) (has_either t) (has_left t) (has_right t) i (touch b.wide w i) h)
+        (around_only b w ps (by_root f.borders) (border_bits t) i (touch b.wide w i) h)
       where
         no_bit : (v : ℕ) → v ≡ 0 → Has t v → ⊥
         no_bit v e h = omega (arith, ap (λ u. u / 2 ^ t) e, zero-div (2 ^ t))
 
     pub bound_all : (t : ℕ) (border : ℕ → Bool) → ((q : ℕ) → Decides (border q) (Has t (touch b.wide w q))) →
         Bound b w border i → Has t (borders_at b w ps f.borders i)
-    bound_all t border tells (own is) = around_old b w ps (by_root f.borders) (Has t) (has_either t) (has_left t) (has_right t) i (touch b.wide w i) ((tells i).0 is)
+    bound_all t border tells (own is) = around_old b w ps (by_root f.borders) (border_bits t) i (touch b.wide w i) ((tells i).0 is)
     bound_all t border tells (across {p = p} {q = q} near row is) =
         let o = first_own (next_to b.wide) row in
-        around_new b w ps (by_root f.borders) (Has t) (has_either t) (has_left t) (has_right t) i (touch b.wide w i) p (omega arith) (omega (arith, o.0)) near (not_other p o)
+        around_new b w ps (by_root f.borders) (border_bits t) i (touch b.wide w i) p (omega (arith, square)) (omega (arith, square, o.0)) near (not_other p o)
         (subst (λ r. Has t (get_or f.borders r 0)) (sym (one_root (next_symmetric b.wide) g w a_side row)) (g.shows w q t a_side (last_own (next_to b.wide) row) ((tells q).0 is)))

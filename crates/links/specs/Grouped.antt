@@ -2,7 +2,7 @@
 use Rattle.std.specs.Prelude.{ℕ, List}
 use Rattle.hexboard.specs.Board.{Board}
 use Rattle.hexboard.specs.Geometry.{laid}
-use Rattle.groups.specs.Words.{words}
+use Rattle.hexboard.specs.Words.{words}
 use Rattle.links.specs.declared.grouped.Grouped.{Grouped}
 
 -- the board of its stones

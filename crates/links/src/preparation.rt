@@ -56,6 +56,8 @@ impl Grouped<'_> {
         ensures { sets.new ≡ entered_all (board self.now) (number side) (parents self.now) k cell sets.old }
     {
         enter(sets, cell, k);
+        // A loop here and one in `look_around`, and no walk that takes a closure: of what a closure changes, as the sets here, nothing
+        // is known after the walk.
         for direction in 0..6 {
             let Some((stone, root)) = self.beside(cell, direction) else {
                 continue;

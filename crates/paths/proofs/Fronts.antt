@@ -1,10 +1,10 @@
 -- One step of the search: it looks round a place, neighbour by neighbour, and lists those of one's own that are not reached yet.
-use Rattle.std.proofs.Common.{◌≡◌, ℕ, ◌+◌, ◌<◌, ◌≤◌, true, false, cond, ◌&&◌, eqb, List, length, get_or, set, Some, None, Option, sym, refl, ap, ◌∙◌, subst, inr, ⊎_elim, arith, below_more}
+use Rattle.std.proofs.Common.{◌≡◌, ℕ, ◌+◌, ◌<◌, ◌≤◌, true, false, cond, ◌&&◌, eqb, List, get_or, set, Some, None, Option, sym, refl, ap, ◌∙◌, subst, inr, ⊎_elim, arith, below_more}
 use Rattle.std.proofs.lemmas.List.{get_or-set_other}
 use Rattle.std.proofs.lemmas.Bool.{eq-eqb, ne_eqb, eqb-true, eqb-false, cond-true, cond-false, and_parts, and_cases, both_ways}
 use Rattle.paths.specs.Ways.{Ground}
 use Rattle.paths.specs.Search.{Reached, Tree, Spread, Front, Ahead, Met}
-use Rattle.paths.proofs.Trees.{room, Comes, stays, reaches, each_reached, each_listed, tree_more}
+use Rattle.paths.proofs.Trees.{Comes, stays, reaches, each_reached, each_listed, tree_more}
 use Rattle.paths.proofs.Crossings.{Mutual, beyond}
 
 -- the depths with place x at depth d
@@ -68,10 +68,6 @@ module _ {g : Ground} {queue from : List ℕ} {h t y : ℕ} {next : ℕ → Opti
   pub look_own : g.own y ≡ true
   look_own = l.front.tree.own y (subst (Reached from) l.here (l.front.tree.listed h l.inside))
 
-  -- The search has not come farther than there are places.
-  pub look_few : h < length from
-  look_few = let i = l.inside in omega (arith, l.front.tree.count)
-
   -- Once all neighbours of y are looked at, the search goes on to the next place.
   pub look_on : ((x : ℕ) → g.near y x ≡ true → g.own x ≡ true → (m : ℕ) × (m < k) × (next m ≡ Some x)) → Ahead g queue from (h + 1) t
   look_on all = (
@@ -90,7 +86,7 @@ module _ {g : Ground} {queue from : List ℕ} {h t y : ℕ} {next : ℕ → Opti
 -- Place x, near y, is one's own and not reached yet.
 module _ {g : Ground} {queue from : List ℕ} {h t y : ℕ} {next : ℕ → Option ℕ} {k x : ℕ} (l : Looking g queue from h t y next k)
     (near : g.near y x ≡ true) (test : (g.own x && eqb (get_or from x 0) 0) ≡ true) where
-  pub look_mine : g.own x ≡ true
+  look_mine : g.own x ≡ true
   look_mine = (and_parts (g.own x) (eqb (get_or from x 0) 0) test).0
 
   new : Reached from x → ⊥
@@ -123,17 +119,14 @@ module _ {g : Ground} {queue from : List ℕ} {h t y : ℕ} {next : ℕ → Opti
     deepest = λ p b. let d = l.front.level l.inside p b in omega (arith, new_depth, ap l.depth l.here);
   }
 
-  pub look_room : t < length from
-  look_room = room g queue from t l.depth x l.front.tree look_mine new
-
   tree : Tree g (set queue t x) (set from x (y + 1)) (t + 1) depth'
-  tree = tree_more g queue from t x y l.depth depth' l.front.tree comes
+  tree = tree_more l.front.tree comes
 
   still : (z : ℕ) → Reached from z → Reached (set from x (y + 1)) z
-  still = stays g queue from t x y l.depth depth' l.front.tree comes
+  still = stays l.front.tree comes
 
   arrived : Reached (set from x (y + 1)) x
-  arrived = reaches g queue from t x y l.depth depth' l.front.tree comes
+  arrived = reaches l.front.tree comes
 
   -- What was reached at most one step deeper than a place still is.
   still_near : (a z : ℕ) → Reached from a → Reached from z × (l.depth z ≤ l.depth a + 1)
@@ -152,7 +145,7 @@ module _ {g : Ground} {queue from : List ℕ} {h t y : ℕ} {next : ℕ → Opti
     reached = arrived;
     first = first;
     least = λ w way.
-        let b = beyond g queue from h t l.depth (l.depth y) both l.front
+        let b = beyond (l.depth y) both l.front
         (λ p late b. let s = l.front.tree.sorted h p late b in omega (arith, ap l.depth l.here)) w way
         in
         omega (arith, new_depth);
@@ -164,9 +157,9 @@ module _ {g : Ground} {queue from : List ℕ} {h t y : ℕ} {next : ℕ → Opti
     depth = depth';
     front = record {
       tree = tree;
-      unmet = each_reached g queue from t x y l.depth depth' l.front.tree comes (λ z. g.first z ≡ true → ⊥) l.front.unmet (both_ways (g.first x) inner);
+      unmet = each_reached l.front.tree comes (λ z. g.first z ≡ true → ⊥) l.front.unmet (both_ways (g.first x) inner);
       sources = λ z o b. let (r, d) = l.front.sources z o b in (still z r, same_depth z r ∙ d);
-      level = λ more. each_listed g queue from t x y l.depth depth' l.front.tree comes
+      level = λ more. each_listed l.front.tree comes
           (λ p z. depth' z ≤ depth' (get_or (set queue t x) h 0) + 1)
           (λ p b.
           let d = l.front.level l.inside p b in

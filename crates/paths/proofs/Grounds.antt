@@ -4,10 +4,11 @@ use Rattle.std.proofs.lemmas.Bool.{and_parts, ltb-true}
 use Rattle.hexboard.specs.Board.{Board, at, next_to, begins, goes_on, is_way, Connects}
 use Rattle.hexboard.specs.Geometry.{laid, neighbour_of}
 use Rattle.hexboard.proofs.Neighbours.{next_symmetric, neighbour_all}
+use Rattle.hexboard.proofs.TwoBytes.{words_length}
+use Rattle.paths.specs.declared.frontier.Frontier.{Frontier}
+use Rattle.paths.specs.Grounds.{HasRoom}
 use Rattle.paths.specs.Search.{Ahead}
-use Rattle.paths.specs.Words.{words}
 use Rattle.paths.specs.Ways.{is_stone, ground, leads, crosses}
-use Rattle.paths.proofs.TwoBytes.{length_words}
 use Rattle.paths.proofs.Crossings.{Mutual, no_way}
 
 -- A stone stands on a cell of the board.
@@ -30,19 +31,11 @@ way_crosses b s (i ∷ is) = ap (λ r. (begins b.wide s i && (ltb i (length b.ce
 
 -- Where a search has looked round all that it lists, the side has not connected.
 pub not_connected : (b : Board) (s : ℕ) (queue from : List ℕ) (h t : ℕ) → Ahead (ground b s) queue from h t → t ≤ h → Connects b s → ⊥
-not_connected b s queue from h t ahead all (w, way) = no_way (ground b s) queue from h t (ground_mutual b s) ahead all w (sym (way_crosses b s w) ∙ way)
+not_connected b s queue from h t ahead all (w, way) = no_way (ground_mutual b s) ahead all w (sym (way_crosses b s w) ∙ way)
 
 -- A board of the desk has so few cells that two bytes can count them.
 pub few_cells : (n : ℕ) → n ≤ 19 → n * n ≤ 361
 few_cells n few = mul-le-mul few few
-
--- The queue and `from` have a number for each cell of the board.
-pub lent_words : (n : ℕ) (bytes : List ℕ) → length bytes ≡ 2 * (n * n) → length (words bytes) ≡ n * n
-lent_words n bytes h = let e = length_words bytes in omega arith
-
--- The answer has room for all of them.
-pub room_for : (n : ℕ) (from out : List ℕ) → length from ≡ 2 * (n * n) → 2 * (n * n) ≤ length out → length (words from) ≤ length (words out)
-room_for n from out whole room = let e = lent_words n from whole in let f = length_words out in omega arith
 
 -- The neighbours of a cell are all the stones that are near it.
 pub neighbours_on : (n s : ℕ) (cells : List ℕ) (y k : ℕ) → length cells ≡ n * n → is_stone cells s y ≡ true → 6 ≤ k
@@ -52,3 +45,7 @@ neighbours_on n s cells y k board own all x near mine =
     let b = own_inside (laid n cells) s x mine in
     let (m, few, e) = neighbour_all n y x (omega arith) (omega arith) near in
     (m, omega arith, e)
+
+-- Memory with two bytes for each cell has room.
+pub has_room : (n : ℕ) (f : Frontier) → length f.queue.now ≡ 2 * (n * n) → length f.from.now ≡ 2 * (n * n) → HasRoom f n
+has_room n f q p = record { queued = omega (arith, words_length f.queue.now); marked = omega (arith, words_length f.from.now) }

@@ -2,8 +2,8 @@
 use Rattle.std.proofs.Common.{◌≡◌, ℕ, ◌+◌, ◌<◌, true, false, ◌&&◌, List, [], ◌∷◌, length, set, replicate, refl, inl, arith, below_more}
 use Rattle.std.proofs.lemmas.Bool.{false≢true, and_parts, and_from, both_ways}
 use Rattle.paths.specs.Ways.{Ground, crosses}
-use Rattle.paths.specs.Search.{Reached, Tree, Unmet, Ahead, Met}
-use Rattle.paths.proofs.Trees.{none_reached, room, tree_none, Comes, stays, reaches, each_reached, tree_more}
+use Rattle.paths.specs.Search.{Reached, Tree, Unmet, Met}
+use Rattle.paths.proofs.Trees.{none_reached, tree_none, Comes, stays, reaches, each_reached, tree_more}
 
 -- the depth of every place at the start
 abbrev flat : ℕ → ℕ
@@ -42,21 +42,8 @@ module _ {g : Ground} {queue from : List ℕ} {i t : ℕ} (sown : Sown g queue f
     below = λ x r. let l = sown.below x r in omega arith;
   }
 
-  -- Once all of one's own places are passed, the search is ready to look round the first that is listed.
-  pub sow_all : ((x : ℕ) → g.own x ≡ true → x < i) → Ahead g queue from 0 t
-  sow_all all = (
-    flat,
-    record {
-      tree = sown.tree;
-      unmet = sown.unmet;
-      sources = λ x o e. (sown.sources x (all x o) o e, refl);
-      level = λ some p l. omega arith;
-      done = λ p l. absurd (omega arith);
-    },
-  )
-
   module _ (test : (g.own i && g.last i) ≡ true) where
-    pub sow_own : g.own i ≡ true
+    sow_own : g.own i ≡ true
     sow_own = (and_parts (g.own i) (g.last i) test).0
 
     comes : Comes g queue from t i i flat flat
@@ -69,11 +56,8 @@ module _ {g : Ground} {queue from : List ℕ} {i t : ℕ} (sown : Sown g queue f
       deepest = λ p l. omega arith;
     }
 
-    pub sow_room : t < length from
-    sow_room = room g queue from t flat i sown.tree sow_own comes.new
-
     tree : Tree g (set queue t i) (set from i (i + 1)) (t + 1) flat
-    tree = tree_more g queue from t i i flat flat sown.tree comes
+    tree = tree_more sown.tree comes
 
     -- A place that is at the first border as well is a way.
     pub sow_met : g.first i ≡ true → Met g (set queue t i) (set from i (i + 1)) i
@@ -81,7 +65,7 @@ module _ {g : Ground} {queue from : List ℕ} {i t : ℕ} (sown : Sown g queue f
       t = t + 1;
       depth = flat;
       tree = tree;
-      reached = reaches g queue from t i i flat flat sown.tree comes;
+      reached = reaches sown.tree comes;
       first = first;
       least = λ w way. some_place g w way;
     }
@@ -90,13 +74,13 @@ module _ {g : Ground} {queue from : List ℕ} {i t : ℕ} (sown : Sown g queue f
     pub sow_more : g.first i ≡ false → Sown g (set queue t i) (set from i (i + 1)) (i + 1) (t + 1)
     sow_more inner = record {
       tree = tree;
-      unmet = each_reached g queue from t i i flat flat sown.tree comes (λ x. g.first x ≡ true → ⊥) sown.unmet (both_ways (g.first i) inner);
+      unmet = each_reached sown.tree comes (λ x. g.first x ≡ true → ⊥) sown.unmet (both_ways (g.first i) inner);
       sources =
           below_more (λ x. g.own x ≡ true → g.last x ≡ true → Reached (set from i (i + 1)) x) i
-          (λ x l o e. stays g queue from t i i flat flat sown.tree comes x (sown.sources x l o e))
-          (λ o e. reaches g queue from t i i flat flat sown.tree comes);
+          (λ x l o e. stays sown.tree comes x (sown.sources x l o e))
+          (λ o e. reaches sown.tree comes);
       below =
-          each_reached g queue from t i i flat flat sown.tree comes (λ x. x < i + 1)
+          each_reached sown.tree comes (λ x. x < i + 1)
           (λ x r. let l = sown.below x r in omega arith)
           (omega arith);
     }

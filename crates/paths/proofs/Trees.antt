@@ -1,7 +1,8 @@
 -- The places that a search has reached: none at first, and then one more and one more.
-use Rattle.std.proofs.Common.{◌≡◌, ℕ, zero, suc, ◌+◌, ◌-◌, ◌<◌, ◌≤◌, true, cond, eqb, ◌⊎◌, List, length, get_or, set, replicate, count_by, sym, refl, ap, ◌∙◌, subst, inl, inr, ⊎_elim, arith, length-set}
+use Rattle.std.proofs.Common.{◌≡◌, ℕ, zero, suc, ◌+◌, ◌-◌, ◌<◌, ◌≤◌, true, cond, eqb, ◌⊎◌, List, length, get_or, set, replicate, count_by, sym, ap, ◌∙◌, subst, inl, inr, ⊎_elim, arith, length-set}
 use Rattle.std.proofs.lemmas.List.{get_or-set_same, get_or-set_other, length-replicate}
-use Rattle.std.proofs.lemmas.List.Sums.{sum_by-cons, sum_by-set, get_or-le-sum_by}
+use Rattle.std.proofs.lemmas.List.Folds.{sum_by-replicate}
+use Rattle.std.proofs.lemmas.List.Sums.{sum_by-set, get_or-le-sum_by}
 use Rattle.std.proofs.lemmas.Bool.{cases_eq}
 use Rattle.std.proofs.lemmas.Bool.Decides.{nat_tests}
 use Rattle.paths.specs.Ways.{Ground}
@@ -17,16 +18,12 @@ none_reached zero x h = omega arith
 none_reached (suc n) zero h = omega arith
 none_reached (suc n) (suc x) h = none_reached n x h
 
-all_free : (n : ℕ) → count_by (eqb 0) (replicate n 0) ≡ n
-all_free zero = refl
-all_free (suc n) = let r = all_free n in omega (arith, sum_by-cons free 0 (replicate n 0))
-
 pub tree_none : (g : Ground) (queue : List ℕ) (n : ℕ) (depth : ℕ → ℕ) → length queue ≡ n → ((x : ℕ) → g.own x ≡ true → x < n)
     → Tree g queue (replicate n 0) 0 depth
 tree_none g queue n depth whole inside = record {
   whole = let r = length-replicate {A = ℕ} n 0 in omega arith;
   inside = λ x own. let r = length-replicate {A = ℕ} n 0 in let i = inside x own in omega arith;
-  count = omega (arith, all_free n, length-replicate {A = ℕ} n 0);
+  count = omega (arith, sum_by-replicate free n 0, length-replicate {A = ℕ} n 0);
   listed = λ p h. absurd (omega arith);
   placed = λ x h. absurd (none_reached n x h);
   own = λ x h. absurd (none_reached n x h);
@@ -36,9 +33,9 @@ tree_none g queue n depth whole inside = record {
 }
 
 -- A place that is not reached has its place in the count, so there is room in a queue as long as `from`.
-pub room : (g : Ground) (queue from : List ℕ) (t : ℕ) (depth : ℕ → ℕ) (x : ℕ) → Tree g queue from t depth → g.own x ≡ true
+room : {g : Ground} {queue from : List ℕ} {t : ℕ} {depth : ℕ → ℕ} (x : ℕ) → Tree g queue from t depth → g.own x ≡ true
     → (Reached from x → ⊥) → t < length from
-room g queue from t depth x tree own new =
+room {from = from} x tree own new =
     let inside = tree.inside x own in
     let z : get_or from x 0 ≡ 0 = omega (arith, new) in
     let one : 1 ≤ count_by (eqb 0) from = subst (λ v. free v ≤ count_by (eqb 0) from) z (get_or-le-sum_by free from x 0 inside) in
@@ -71,11 +68,11 @@ pub record Comes (g : Ground) (queue from : List ℕ) (t x y : ℕ) (depth depth
   pub shallow : depth' x ≤ t
   pub deepest : (p : ℕ) → p < t → depth (get_or queue p 0) ≤ depth' x
 
-module _ (g : Ground) (queue from : List ℕ) (t x y : ℕ) (depth depth' : ℕ → ℕ) (tree : Tree g queue from t depth)
+module _ {g : Ground} {queue from : List ℕ} {t x y : ℕ} {depth depth' : ℕ → ℕ} (tree : Tree g queue from t depth)
     (comes : Comes g queue from t x y depth depth') where
   now : Added queue from t x y (set queue t x) (set from x (y + 1))
   now =
-      let r = room g queue from t depth x tree comes.own comes.new in
+      let r = room x tree comes.own comes.new in
       added queue from t x y (omega (arith, tree.whole)) (tree.inside x comes.own) comes.new
 
   -- What was reached still is, from where it was,

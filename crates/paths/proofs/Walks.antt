@@ -5,8 +5,8 @@ use Rattle.std.proofs.lemmas.Bool.{and_from, both_ways}
 use Rattle.paths.specs.Ways.{Ground, ground, leads, crosses, Shortest, Written}
 use Rattle.paths.specs.Search.{Reached, parent, Child, Met}
 use Rattle.hexboard.specs.Board.{Board}
-use Rattle.paths.specs.Words.{words}
-use Rattle.paths.proofs.TwoBytes.{words_take}
+use Rattle.hexboard.specs.Words.{words}
+use Rattle.hexboard.proofs.TwoBytes.{words_take}
 use Rattle.paths.proofs.Crossings.{Mutual}
 use Rattle.paths.proofs.Grounds.{way_crosses}
 
@@ -96,6 +96,8 @@ pub walk_written : (b : Board) (s : ℕ) {queue from : List ℕ} {start cell cou
     → Walking (ground b s) from m.depth start cell count (words new) → (ground b s).last cell ≡ true → length from ≡ length b.cells
     → count ≤ length (words new) → drop (2 * count) new ≡ drop (2 * count) old → Written b s old new count
 walk_written b s {count = count} old new m walking last whole room behind =
+    let two : 2 * count ≡ count * 2 = omega arith in
+    let front : words (take (2 * count) new) ≡ take count (words new) = rw two (words_take count new) in
     let long = length-take-le count (words new) room in
     let shortest : Shortest b s (take count (words new)) =
     record {
@@ -106,7 +108,7 @@ walk_written b s {count = count} old new m walking last whole room behind =
     }
     in
     record {
-      shortest = subst (Shortest b s) (sym (words_take count new)) shortest;
-      count = ap length (words_take count new) ∙ long;
+      shortest = rw front shortest;
+      count = ap length front ∙ long;
       behind = behind;
     }

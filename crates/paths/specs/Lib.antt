@@ -1,4 +1,3 @@
-pub mod Words
 pub mod Ways
+pub mod Grounds
 pub mod Search
-pub mod Progress

@@ -1,5 +1,5 @@
 -- What a breadth-first search from the last border knows: which places it has reached, from which, in what order and how deep.
-use Rattle.std.specs.Prelude.{◌≡◌, ℕ, ◌+◌, ◌-◌, ◌*◌, ◌<◌, ◌≤◌, true, ◌⊎◌, List, length, count_by, ◌≢◌, nat_eq, slice_index}
+use Rattle.std.specs.Prelude.{◌≡◌, ℕ, ◌+◌, ◌-◌, ◌*◌, ◌<◌, ◌≤◌, true, ◌⊎◌, List, length, count_by, ◌≢◌, nat_eq, slice_index, Option, MatchOption}
 use Rattle.paths.specs.Ways.{Ground, crosses}
 
 -- The lent memory of a search on a board n wide: a byte for each cell of the board, and two in the queue and in `from`.
@@ -62,3 +62,8 @@ pub record Met (g : Ground) (queue from : List ℕ) (x : ℕ) : Type 0 where
   pub reached : Reached from x
   pub first : g.first x ≡ true
   pub least : (w : List ℕ) → crosses g w ≡ true → depth x < length w
+
+-- What the start of the search has come to: a stone at both borders, or the stones at the last border listed, t of them, with the search
+-- about to look round the first.
+abbrev pub Sowing : Ground → List ℕ → List ℕ → ℕ → Option ℕ → Type 0
+Sowing g queue from t reached = MatchOption reached (Ahead g queue from 0 t) (Met g queue from)

@@ -1,7 +1,7 @@
 -- Ways over any ground: places of one's own, each near the one before, from a first border to a last. A board's side has such a ground.
 use Rattle.std.specs.Prelude.{◌≡◌, ℕ, ◌*◌, ◌<◌, ◌≤◌, Bool, true, false, ◌&&◌, ◌≢◌, List, [], ◌∷◌, length, take, drop, Some, None, Option, ◌==◌, nat_lt, slice_index}
 use Rattle.hexboard.specs.Board.{Board, next_to, begins, ends, is_way, Connects}
-use Rattle.paths.specs.Words.{words}
+use Rattle.hexboard.specs.Words.{words}
 
 -- what a way is made of: which places are near each other, which are one's own, which are at the first border and which at the last
 pub record Ground : Type 0 where

@@ -1,10 +1,11 @@
 // A way of a side: a row of its stones from its first border to its last, found by a breadth-first search in lent memory.
 #![tactic(auto)]
 
+mod frontier;
+mod ground;
 mod search;
 #[cfg(test)]
 mod tests;
-mod words;
 
 ghost use Rattle.std.specs.Prelude.{ℕ, ◌*◌, ◌≤◌, length};
 ghost use Rattle.hexboard.specs.Geometry.{laid};
@@ -12,10 +13,13 @@ ghost use Rattle.hexboard.specs.Sides.{number};
 ghost use Rattle.paths.specs.Search.{Lent};
 ghost use Rattle.paths.specs.Ways.{Answered};
 
-use hexboard::{Side, Size};
+use crate::frontier::Frontier;
+use crate::ground::Ground;
+use hexboard::{Side, Size, set_word};
 
 // Finds a shortest way of a side and writes its cells to `out`, two bytes a cell, low byte first: the answer is how many there are.
 // Where the side has not connected there is none, and `out` is left as it was. `queue` and `from` are scratch, two bytes a cell each.
+// The parts come one by one, as they lie in the caller's memory; `Ground` and `Frontier` are made of them here.
 pub fn find_way(
     size: Size,
     side: Side,
@@ -28,12 +32,19 @@ pub fn find_way(
     requires room { 2 * (size.n * size.n) ≤ length out.old }
     ensures { Answered (laid size.n cells.now) (number side) out.old out.new result }
 {
-    let mut cell = search::search(size, side, cells, queue, from)?;
+    let ground = Ground { size, side, cells };
+    let mut frontier = Frontier {
+        queue,
+        from,
+        count: 0,
+    };
+    let mut cell = search::search(&ground, &mut frontier)?;
     let mut count = 1;
-    words::put_word(out, 0, cell);
-    while !search::is_last(size, side, cell) {
-        cell = words::word(from, cell) - 1;
-        words::put_word(out, count, cell);
+    let _ = set_word(out, 0, cell);
+    // No plainer by `successors`: its closure would have to ask `is_last` and to hold the frontier lent.
+    while !ground.is_last(cell) {
+        cell = frontier.parent(cell).unwrap();
+        let _ = set_word(out, count, cell);
         count += 1;
     }
     Some(count)

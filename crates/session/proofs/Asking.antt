@@ -8,7 +8,7 @@ use Rattle.hexboard.specs.Games as games
 use Rattle.hexboard.specs.Sides.{number}
 use Rattle.wire.specs.Numbers.{words}
 use Rattle.hexboard.specs.declared.side.Side.{Side}
-use Rattle.paths.specs.Words as paths
+use Rattle.hexboard.specs.Words as board
 use Rattle.paths.specs.Ways.{Written}
 use Rattle.groups.proofs.Positions.{board_cells}
 use Rattle.history.specs.Holds.{won_by, Memory, moves_in, formal, Holds}
@@ -27,8 +27,7 @@ front_of bytes e k cut =
     (order k (length bytes))
 
 -- numbers of two bytes are the same for a way and for an answer
-same_words : (bytes : List ℕ) → paths.words bytes ≡ words bytes
-unfolding paths.words
+same_words : (bytes : List ℕ) → board.words bytes ≡ words bytes
 same_words [] = refl
 same_words (low ∷ []) = refl
 same_words (low ∷ (high ∷ bytes)) = ap (λ (ws : List ℕ). (low + high * 256) ∷ ws) (same_words bytes)

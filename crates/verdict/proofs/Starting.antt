@@ -8,7 +8,7 @@ use Rattle.hexboard.specs.Promise.{Good}
 use Rattle.ranking.specs.Positions.{choose, count, start, total, place}
 use Rattle.ranking.specs.Sets.{bit}
 use Rattle.ranking.specs.Table.{entry}
-use Rattle.ranking.proofs.Bits.{bit_none, bit_one, bit_more, in_or_out, cell_below}
+use Rattle.ranking.proofs.Bits.{bit_none, bit_more, in_or_out, cell_below}
 use Rattle.ranking.proofs.Ranks.{total_wider, total_most}
 use Rattle.theorems.proofs.Better.{Up}
 use Rattle.theorems.proofs.NotBoth.{not_both}
@@ -20,6 +20,7 @@ use Rattle.endgame.specs.Linked.{Linked}
 use Rattle.endgame.specs.declared.search.Found.{Found}
 use Rattle.endgame.specs.Ends.{mark, Stands, Node, Ending, Sound, unknown, Told, Tells}
 use Rattle.endgame.specs.Searched.{Looked}
+use Rattle.links.proofs.Gathered.{only_bit}
 use Rattle.verdict.specs.Verdicts.{bytes_of_table}
 use Rattle.endgame.proofs.Carried.{mark_empty, mark_other, forced_by}
 use Rattle.endgame.proofs.Law.{describes}
@@ -108,7 +109,7 @@ pub forced_by_move : {e : ℕ} {b : Board} {es : List ℕ} {s : ℕ} {mine their
 forced_by_move {e} {b} {es} {s} {f = f} end told won some k h =
     let step = told.moves won some in
     let l = cell_below e step.cell (2 ^ e - 1) (node_first e).free_fits step.of in
-    let same : k ≡ step.cell = ⊎_elim (λ p. p.0) (λ p. absurd (omega (arith, p.1, ap (bit k) step.is))) (bit_one step.cell k) in
+    let same : k ≡ step.cell = only_bit step.cell k (sym (ap (bit k) step.is) ∙ h) in
     let inside : step.cell < length es = omega (arith, end.many) in
     subst (λ j. (get_or es j 0 < length b.cells) × (at b (get_or es j 0) ≡ 0) × Forces s (put b s (get_or es j 0)) (other s)) (sym same)
     (end.numbered.inside step.cell inside, end.numbered.empty step.cell inside, after_step end.numbered s step.cell step.carrier end.side inside step.stands)

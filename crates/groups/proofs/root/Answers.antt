@@ -1,7 +1,7 @@
 use Rattle.std.proofs.Common.{sym, ap, ◌∙◌, arith}
-use Rattle.groups.specs.Words.{words}
+use Rattle.hexboard.specs.Words.{words}
 use Rattle.groups.specs.Forest.{climb}
-use Rattle.groups.proofs.Bytes.{words_length}
+use Rattle.hexboard.proofs.TwoBytes.{words_length}
 use Rattle.groups.proofs.Climbs.{climb_root, climb_step, climb_none}
 use Rattle.groups.proofs.root.Goals as goal
 

@@ -1,5 +1,5 @@
 use Rattle.std.proofs.Common.{◌≡◌, ◌-◌}
-use Rattle.groups.specs.Words.{words}
+use Rattle.hexboard.specs.Words.{words}
 use Rattle.groups.specs.Forest.{climb, root}
 use Rattle.groups.proofs.root.Given as goal
 

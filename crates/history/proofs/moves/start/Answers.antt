@@ -1,6 +1,5 @@
-use Rattle.std.proofs.Common.{refl, ap, ◌∙◌, arith}
+use Rattle.std.proofs.Common.{rules, replicate, ap, ◌∙◌}
 use Rattle.hexboard.specs.Board.{all_cells}
-use Rattle.hexboard.proofs.Boards.{all_cells_replicate}
 use Rattle.history.specs.Holds.{lent}
 use Rattle.history.proofs.Taking.{new_held}
 use Rattle.history.proofs.moves.start.Goals as goal
@@ -8,9 +7,9 @@ use Rattle.history.proofs.moves.start.Goals as goal
 pub returns : goal.returns
 returns c =
     let long = c.requires in
-    let held = new_held c.args.size.n _ (lent c.clear.new.cells c.fill.new.self c.clear-2.new.parents c.clear-2.new.borders)
-    refl refl refl
+    let held = new_held c.args.size.n _ (lent c.clear.new.cells c.fill.new.self _ _)
+    (ap (λ s. s.n) c.new.ensures.size) c.new.ensures.count c.new.ensures.nobody
     (c.clear.ensures.after ∙ ap all_cells long.stones)
-    (c.fill.ensures.after (λ y e. e) ∙ (all_cells_replicate _ ∙ ap all_cells long.log))
-    (c.clear-2.ensures long.parents long.borders) (omega (arith, c.clear-2.auto.parents, long.parents)) in
-    record { holds = held.0; new = held.1; size = refl; fresh = (refl, refl) }
+    (c.fill.ensures.after (λ y e. e) ∙ ap (λ k. replicate k 0) long.log)
+    (c.clear-2.ensures long.parents long.borders) (search rules) in
+    record { holds = held.0; new = held.1; size = c.new.ensures.size; fresh = (c.new.ensures.count, c.new.ensures.nobody) }

@@ -1,4 +1,4 @@
-use Rattle.std.proofs.Common.{◌≡◌, ◌+◌, [], ◌∷◌, ◌++◌, take, set, sym, refl, ap, ◌∙◌, subst, arith}
+use Rattle.std.proofs.Common.{rules, ◌≡◌, ◌+◌, [], ◌∷◌, ◌++◌, take, set, sym, refl, ap, ◌∙◌, subst, arith}
 use Rattle.hexboard.specs.Words.{words}
 use Rattle.groups.specs.Moves.{forest_of, Legal}
 use Rattle.history.specs.Holds.{lent}
@@ -11,8 +11,8 @@ returns-in_default c = record { right = right_none_made _ (lent _ _ _ _) c.requi
 pub unwrap-cell-requires : goal.unwrap-cell-requires
 unwrap-cell-requires c = last_there c.args.game (lent _ c.args.log.now _ _) c.requires c.in-Some.last (omega (arith, c.in-Some.ensures)) _ c.word.ensures
 
-pub bounds-stones-cell : goal.bounds-stones-cell
-bounds-stones-cell c =
+pub bounds-stones-from : goal.bounds-stones-from
+bounds-stones-from c =
     let one : c.in-Some.last + 1 ≡ c.args.game.count = omega (arith, c.in-Some.ensures) in
     let m = lent c.args.stones.now c.args.log.now c.args.parents.now c.args.borders.now in
     omega (arith, last_is c.args.game m c.requires c.in-Some.last one _ _ c.word.ensures c.unwrap-cell.ensures, last_on c.args.game m c.requires c.in-Some.last one)
@@ -24,9 +24,9 @@ returns c =
     let last = c.in-Some.last in
     let ks = take last (words c.args.log.now) in
     let is = last_is c.args.game m c.requires last one _ _ c.word.ensures c.unwrap-cell.ensures in
-    served_back c.args.game m c.requires last one _ _ refl refl refl (ap (λ x. set c.args.stones.now x 0) is) c.set_word.ensures.after
+    served_back c.args.game m c.requires last one _ _ refl refl refl (ap (λ x. set c.args.stones.now x 0) (c.from.ensures ∙ is)) c.set_word.ensures.after
     (omega (arith, c.set_word.auto.bytes))
     (c.lift.ensures.back ks
     (subst (λ x. Legal c.args.game.size.n (ks ++ (x ∷ []))) (sym is) (legal_now c.args.game m c.requires last one))
     (groups_now c.args.game m c.requires last one ∙ ap (λ x. forest_of c.args.game.size.n (ks ++ (x ∷ []))) (sym is)))
-    (omega (arith, c.lift.auto.parents))
+    (search rules)

@@ -1,23 +1,28 @@
 use Rattle.std.proofs.Common.{◌≡◌, ◌-◌, ◌*◌, None}
-use Rattle.hexboard.specs.Geometry.{laid, neighbour_of}
-use Rattle.hexboard.specs.Sides.{number}
-use Rattle.paths.specs.Words.{words}
-use Rattle.paths.specs.Ways.{ground}
+use Rattle.hexboard.specs.Geometry.{neighbour_of}
+use Rattle.hexboard.specs.Words.{words}
 use Rattle.paths.specs.Search.{Ahead}
+use Rattle.paths.specs.Grounds.{ground_of, HasRoom}
 use Rattle.paths.proofs.Fronts.{Looking}
 use Rattle.paths.proofs.search.search.Given as goal
 
 abbrev pub invariant-search : goal.invariant-search
 invariant-search l =
-    (l.found ≡ None)
-    × Ahead (ground (laid l.size.n l.cells) (number l.side)) (words l.queue) (words l.from) l.head l.count
+    record {
+      none : l.found ≡ None;
+      ahead : Ahead (ground_of l.ground) (words l.frontier.queue.now) (words l.frontier.from.now) l.head l.frontier.count;
+      room : HasRoom l.frontier l.ground.size.n;
+    }
 
 abbrev pub invariant-loop-k : goal.invariant-loop-k
 invariant-loop-k l =
-    (l.found ≡ None)
-    × Looking (ground (laid l.size.n l.cells) (number l.side)) (words l.queue) (words l.from) l.head l.count l.cell
-    (neighbour_of l.size.n l.cell) l.k
+    record {
+      none : l.found ≡ None;
+      looking : Looking (ground_of l.ground) (words l.frontier.queue.now) (words l.frontier.from.now) l.head l.frontier.count l.cell
+          (neighbour_of l.ground.size.n l.cell) l.k;
+      room : HasRoom l.frontier l.ground.size.n;
+    }
 
 -- one place of the queue after another, of which there are no more than cells
 abbrev pub decreases-search : goal.decreases-search
-decreases-search l = l.size.n * l.size.n - l.head
+decreases-search l = l.ground.size.n * l.ground.size.n - l.head

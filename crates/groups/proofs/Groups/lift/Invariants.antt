@@ -1,7 +1,7 @@
 use Rattle.std.proofs.Common.{◌≡◌}
-use Rattle.groups.specs.Words.{words}
+use Rattle.hexboard.specs.Words.{words}
 use Rattle.groups.specs.Forest.{free}
-use Rattle.groups.proofs.lift.Given as goal
+use Rattle.groups.proofs.Groups.lift.Given as goal
 
 -- the cells before this one have been looked at
 abbrev pub invariant-loop-below : goal.invariant-loop-below

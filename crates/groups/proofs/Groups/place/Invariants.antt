@@ -2,7 +2,7 @@ use Rattle.std.proofs.Common.{◌≡◌}
 use Rattle.hexboard.specs.Geometry.{neighbour_of, laid}
 use Rattle.hexboard.specs.Sides.{number}
 use Rattle.groups.specs.Forest.{held, adopt}
-use Rattle.groups.proofs.place.Given as goal
+use Rattle.groups.proofs.Groups.place.Given as goal
 
 -- the neighbours before the k-th have been looked at
 abbrev pub invariant-loop-k : goal.invariant-loop-k

@@ -1,7 +1,0 @@
-use Rattle.groups.specs.Words.{words}
-use Rattle.groups.proofs.Clearing.{Cleared}
-use Rattle.groups.proofs.clear.Given as goal
-
--- the cells before this one have been cleared
-abbrev pub invariant-loop-each : goal.invariant-loop-each
-invariant-loop-each l = Cleared l.each (words l.parents) l.borders
