@@ -2,12 +2,15 @@
 #![tactic(auto)]
 
 use anyhow::anyhow;
-use driver::answer_line;
+use driver::Limits;
+use programs::{Answers, serve_input};
 use std::env;
-use std::io::{BufRead, BufReader};
 
-// The largest board that this program serves.
-const LARGEST: u16 = 7;
+// The largest board that this program serves. Can force is no call of it.
+const LIMITS: Limits = Limits {
+    largest: 7,
+    ends: None,
+};
 
 const HELP: &str =
     "answer: reads calls from standard input, a line each, and answers each with a line\n\
@@ -25,28 +28,14 @@ A line that is refused is answered by 'refused R at P', and changes nothing:\n\
   5  the cell is not empty\n\
   6  there is no move to take back\n";
 
-fn run(rt: &HostRuntime) -> anyhow::Result<()> {
-    let mut arguments = env::args(rt)?;
-    let _ = arguments.next();
-    if let Some(argument) = arguments.next() {
-        if argument.as_str() == "--help" {
-            rt.print(HELP)?;
-            return Ok(());
-        }
-        return Err(anyhow!("no such argument; answer --help tells what there is"));
-    }
-    let heap = rt.alloc();
-    let mut desk = None;
-    let mut out = String::new(heap);
-    for line in BufReader::new(heap, rt.stdin())?.split(heap, b'\n') {
-        let line = line?;
-        out.clear();
-        desk = answer_line(heap, LARGEST, desk, line.as_slice(), &mut out)?;
-        rt.println(out.as_str())?;
-    }
-    Ok(())
-}
-
+// Only the first argument is looked at.
 fn main(rt: HostRuntime) -> anyhow::Result<()> {
-    run(&rt)
+    match env::args(&rt)?.nth(1) {
+        None => serve_input(&rt, LIMITS, &Answers, false),
+        Some(argument) if argument.as_str() == "--help" => {
+            rt.print(HELP)?;
+            Ok(())
+        }
+        Some(_) => Err(anyhow!("no such argument; answer --help tells what there is")),
+    }
 }

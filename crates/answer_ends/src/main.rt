@@ -1,8 +1,8 @@
 // Answers calls, can force among them, a line each, as they come: for a person at a terminal or for a file.
 #![tactic(auto)]
 
-use programs::{Prints, Program};
-use serving::Limits;
+use driver::Limits;
+use programs::{Answers, Program};
 
 const HELP: &str =
     "answer_ends: reads calls from standard input, a line each, and answers each with a line, at once
@@ -16,10 +16,8 @@ fn main(rt: HostRuntime) -> anyhow::Result<()> {
         help: HELP,
         limits: Limits {
             largest: 7,
-            ends: 10,
+            ends: Some(10),
         },
-        prints: Prints::Answers,
-        flags: false,
     };
-    programs::run(&rt, program)
+    programs::run(&rt, program, &Answers)
 }

@@ -1,8 +1,8 @@
 // Answers calls as they come, on boards of every size that a desk has: for a person at a terminal or for a file.
 #![tactic(auto)]
 
-use programs::{Prints, Program};
-use serving::Limits;
+use driver::Limits;
+use programs::Program;
 
 const HELP: &str =
     "desk: reads calls from standard input, a line each, and answers each with a line, at once
@@ -19,10 +19,8 @@ fn main(rt: HostRuntime) -> anyhow::Result<()> {
         help: HELP,
         limits: Limits {
             largest: 19,
-            ends: 16,
+            ends: Some(16),
         },
-        prints: Prints::Answers,
-        flags: true,
     };
-    programs::run(&rt, program)
+    programs::run_with_flags(&rt, program)
 }

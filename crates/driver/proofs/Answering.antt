@@ -1,37 +1,50 @@
--- What the parts of the driver say, put together as what a line is answered by.
-use Rattle.std.proofs.Common.{◌≡◌, ℕ, ◌-◌, min, List, ◌++◌, length, take, codes, decimal, sym, ap, ◌∙◌, subst, ⊎_elim, arith}
-use Rattle.std.proofs.lemmas.List.{take_all}
-use Rattle.std.proofs.str.Laws.{order}
+-- What the parts of serving a line say, put together as what a line is answered by.
+use Rattle.std.proofs.Common.{◌≡◌, ℕ, List, ◌++◌, IfOk, Ok, Err, vec_items, codes, decimal, Result, ⊎_elim, ◌+◌, [], ◌∷◌, take, sym, ap, ◌∙◌}
+use Rattle.std.proofs.lemmas.List.{flat_map_more}
+use Rattle.std.specs.List.{flat_map}
 use Rattle.hexboard.specs.Games as games
+use Rattle.wire.specs.Formal.{asked}
+use Rattle.session.specs.Desks.{desk_game}
+use Rattle.session.specs.Replies.{replied}
+use Rattle.session.specs.declared.desk.Desk.{Desk}
+use Rattle.session.specs.declared.reply.Reply.{Reply}
 use Rattle.wire.specs.declared.call.Call.{Call}
 use Rattle.wire.specs.Answers.{line_of}
 use Rattle.text.specs.Lines.{Asks, Says}
 use Rattle.text.specs.declared.reading.Line.TheVariants as line
-use Rattle.driver.specs.Served.{Reopened, Called, Next}
+use Rattle.driver.specs.Served.{Reopened, Called, Next, Told}
+use Rattle.driver.specs.declared.served.Served.{Served}
+use Rattle.driver.specs.declared.times.Kind.{Kind}
+use Rattle.driver.specs.declared.limits.Limits.{Limits}
 
--- a line that is written after what was there, and that answers the line read
-abbrev pub Told : ℕ → List ℕ → games.Game → games.Game → List ℕ → List ℕ → Type 0
-Told largest bytes g h before after = (added : List ℕ) × (after ≡ before ++ added) × Next largest bytes g h added
-
-pub reopened_next : (largest n : ℕ) (bytes : List ℕ) (g h : games.Game) (before after : List ℕ) → Asks bytes (line.Board n) →
-    Reopened largest n g h before after → Told largest bytes g h before after
-reopened_next largest n bytes g h before after asks =
+pub reopened_next : (limits : Limits) (n : ℕ) (bytes : List ℕ) (g h : games.Game) (served : Served) (before after : List ℕ) → Asks bytes (line.Board n) →
+    Reopened limits n g h served before after → Told limits bytes g h served before after
+reopened_next limits n bytes g h served before after asks =
     ⊎_elim
-    (λ yes'. (codes "board " ++ decimal n, yes'.2, subst (λ k. Next largest bytes g k (codes "board " ++ decimal n)) (sym yes'.1) (Next.opened n asks yes'.0)))
-    (λ no'. (line_of (games.refused 3 0), no'.2, subst (λ k. Next largest bytes g k (line_of (games.refused 3 0))) (sym no'.1) (Next.out_of_range n asks no'.0)))
+    (λ yes'. (codes "board " ++ decimal n, yes'.3, rw (yes'.1, yes'.2) (Next.opened n asks yes'.0)))
+    (λ no'. (line_of (games.refused 3 0), no'.3, rw (no'.1, no'.2) (Next.out_of_range n asks no'.0)))
 
-pub called_next : (largest : ℕ) (bytes : List ℕ) (call : Call) (g h : games.Game) (before after : List ℕ) → Says bytes call →
-    Called call g h before after → Told largest bytes g h before after
-called_next largest bytes call g h before after says =
+pub called_next : (limits : Limits) (bytes : List ℕ) (call : Call) (g h : games.Game) (served : Served) (before after : List ℕ) → Says bytes call →
+    Called limits call g h served before after → Told limits bytes g h served before after
+called_next limits bytes call g h served before after says =
     ⊎_elim
-    (λ served. (line_of served.0, served.1, Next.answered call served.0 says served.2))
-    (λ not'. (codes "refused 1 at " ++ decimal 0, not'.2, subst (λ k. Next largest bytes g k (codes "refused 1 at " ++ decimal 0)) (sym not'.1) (Next.unserved call says not'.0)))
+    (λ told. let (a, written, is, right) = told.2 in (line_of a, written, rw is (Next.answered call a says told.0 told.1 right)))
+    (⊎_elim
+    (λ far. (line_of games.too_many, far.3, rw (far.1, far.2) (Next.beyond call says far.0)))
+    (λ not'. (codes "refused 1 at " ++ decimal 0, not'.3, rw (not'.1, not'.2) (Next.unserved call says not'.0))))
 
--- the front of some bytes, cut at their end if it would be longer
-pub front_of : (bytes xs : List ℕ) (e k : ℕ) → e ≡ min k (length bytes) → bytes ≡ xs → take k xs ≡ take (e - 0) bytes
-front_of bytes xs e k cut same =
-    ap (take k) (sym same) ∙
-    ⊎_elim
-    (λ less. let z : k ≡ e - 0 = omega arith in ap (λ j. take j bytes) z)
-    (λ more. let z : length bytes ≡ e - 0 = omega arith in take_all k bytes more ∙ (sym (take_all (length bytes) bytes (omega arith)) ∙ ap (λ j. take j bytes) z))
-    (order k (length bytes))
+-- what holds of all that was made holds of what follows from it
+pub made_more : {X Y : Type 0} {P Q : X → Type 0} (r : Result X Y) → ((x : X) → P x → Q x) → IfOk r P → IfOk r Q
+made_more (Ok x) f = f x
+made_more (Err y) f = λ _. tt
+
+-- a right answer, told of another name for the desk and the reply
+pub right_again : (g : games.Game) (call : Call) (d e : Desk) (r s : Reply) → d ≡ e → r ≡ s →
+    games.Right g (asked call) (replied s (vec_items e.way)) (desk_game e) → games.Right g (asked call) (replied r (vec_items d.way)) (desk_game d)
+right_again g call d e r s same-desk same-reply right = rw (same-desk, same-reply) right
+
+-- the lines of some kinds, and that of one more
+pub lines_more : (f : Kind → List ℕ) (before now' after : List ℕ) (ks : List Kind) (i : ℕ) (k : Kind) → take (i + 1) ks ≡ take i ks ++ k ∷ [] →
+    now' ≡ before ++ flat_map f (take i ks) → after ≡ now' ++ f k → after ≡ before ++ flat_map f (take (i + 1) ks)
+lines_more f before now' after ks i k more was is =
+    is ∙ (ap (λ (xs : List ℕ). xs ++ f k) was ∙ (flat_map_more f before (take i ks) k ∙ ap (λ (js : List Kind). before ++ flat_map f js) (sym more)))

@@ -1,1 +1,2 @@
 mod Answering
+mod Outcomes

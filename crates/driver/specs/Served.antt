@@ -1,6 +1,6 @@
 -- What a line is answered by, and the game afterwards. Definitions only.
 use Rattle.std.specs.Prelude.{◌≡◌, ℕ, ◌-◌, ◌<◌, ◌≤◌, ◌&&◌, ◌⊎◌, List, ◌++◌, length, take, Some, None, codes, decimal, Option, ◌==◌, nat_lt, slice_index}
-use Rattle.hexboard.specs.Board.{pick}
+use Rattle.hexboard.specs.Board.{pick, empties}
 use Rattle.hexboard.specs.Games as games
 use Rattle.wire.specs.Formal.{asked}
 use Rattle.wire.specs.declared.call.Call.{Call}
@@ -11,41 +11,74 @@ use Rattle.wire.specs.Answers.{line_of}
 use Rattle.text.specs.Lines.{Asks, Says, Readable}
 use Rattle.text.specs.Places.{Stops}
 use Rattle.text.specs.declared.reading.Line.TheVariants as line
+use Rattle.driver.specs.declared.limits.Limits.{Limits}
+use Rattle.driver.specs.declared.served.Served.{Served}
+use Rattle.driver.specs.declared.served.Served.TheVariants.{Taken, Refused}
 
 -- the bytes without a carriage return at their end
 abbrev pub trimmed : List ℕ → List ℕ
 trimmed bytes = pick (nat_lt 0 (length bytes) && slice_index bytes (length bytes - 1) == 13) (take (length bytes - 1) bytes) bytes
 
 -- a size that a program serves: none is larger than the desk's own limit
-abbrev pub ServedSize : ℕ → ℕ → Type 0
-ServedSize largest n = (0 < n) × (n ≤ largest) × (n ≤ 19)
+abbrev pub ServedSize : Limits → ℕ → Type 0
+ServedSize limits n = (0 < n) × (n ≤ limits.largest) × (n ≤ 19)
 
--- the calls that are not served yet
-abbrev pub Unserved : Call → Type 0
-Unserved (Move cell) = ⊥
-Unserved Back = ⊥
-Unserved Who = ⊥
-Unserved CanForce = Unit {0}
+-- a call that a program does not serve: whether the side to move can force that it connects, where it looks through no ends
+abbrev pub Unserved : Limits → Call → Type 0
+Unserved limits (Move cell) = ⊥
+Unserved limits Back = ⊥
+Unserved limits Who = ⊥
+Unserved limits CanForce = limits.ends ≡ None
 
--- a call in game g: its answer is written and right, with h the game afterwards; or it is not served yet
-abbrev pub Called : Call → games.Game → games.Game → List ℕ → List ℕ → Type 0
-Called call g h before after =
-    ((a : games.Answer) × (after ≡ before ++ line_of a) × games.Right g (asked call) a h)
-    ⊎ (Unserved call × (h ≡ g) × (after ≡ before ++ (codes "refused 1 at " ++ decimal 0)))
+-- so many empty cells are more than a program looks through, if it looks through ends
+abbrev pub TooLong : Option ℕ → ℕ → Type 0
+TooLong None cells = ⊥
+TooLong (Some ends) cells = ends < cells
 
--- On the board of game g, the line of these bytes is answered by the last list, and leads to the game before it.
-pub data Next (largest : ℕ) (bytes : List ℕ) (g : games.Game) : games.Game → List ℕ → Type 0 where
-  opened : (n : ℕ) → Asks bytes (line.Board n) → ServedSize largest n → Next largest bytes g (games.new_game n) (codes "board " ++ decimal n)
-  out_of_range : (n : ℕ) → Asks bytes (line.Board n) → (ServedSize largest n → ⊥) → Next largest bytes g g (line_of (games.refused 3 0))
-  unreadable : (p : ℕ) → Stops Readable bytes p → Next largest bytes g g (codes "refused 1 at " ++ decimal p)
-  answered : {h : games.Game} (call : Call) (a : games.Answer) → Says bytes call → games.Right g (asked call) a h → Next largest bytes g h (line_of a)
-  -- a call that the program does not serve yet
-  unserved : (call : Call) → Says bytes call → Unserved call → Next largest bytes g g (codes "refused 1 at " ++ decimal 0)
+-- a call that a program does not look into: whether the side to move can force that it connects, where nobody has connected and
+-- more cells are empty than the program looks through
+abbrev pub Beyond : Limits → games.Game → Call → Type 0
+Beyond limits g (Move cell) = ⊥
+Beyond limits g Back = ⊥
+Beyond limits g Who = ⊥
+Beyond limits g CanForce = TooLong limits.ends (empties g.board.cells) × (games.Won g → ⊥)
+
+-- an answer is a refusal, or what was asked is taken
+abbrev pub answer_is_taken : games.Answer → Served
+answer_is_taken (games.refused r p) = Refused
+answer_is_taken (games.number n) = Taken
+answer_is_taken (games.way s w) = Taken
+answer_is_taken (games.yes next) = Taken
+answer_is_taken games.no = Taken
+answer_is_taken games.too_many = Taken
+
+-- a call in game g: its answer is written and right, with h the game afterwards; or it is too many, and beyond the limits; or it is
+-- refused, as the program does not serve it
+abbrev pub Called : Limits → Call → games.Game → games.Game → Served → List ℕ → List ℕ → Type 0
+Called limits call g h served before after =
+    ((Unserved limits call → ⊥) × (Beyond limits g call → ⊥) × ((a : games.Answer) × (after ≡ before ++ line_of a) × (served ≡ answer_is_taken a) × games.Right g (asked call) a h))
+    ⊎ ((Beyond limits g call × (h ≡ g) × (served ≡ Taken) × (after ≡ before ++ line_of games.too_many))
+    ⊎ (Unserved limits call × (h ≡ g) × (served ≡ Refused) × (after ≡ before ++ (codes "refused 1 at " ++ decimal 0))))
+
+-- On the board of game g, the line of these bytes leads to a game, is answered by a line, and is taken or refused.
+pub data Next (limits : Limits) (bytes : List ℕ) (g : games.Game) : games.Game → List ℕ → Served → Type 0 where
+  opened : (n : ℕ) → Asks bytes (line.Board n) → ServedSize limits n → Next limits bytes g (games.new_game n) (codes "board " ++ decimal n) Taken
+  out_of_range : (n : ℕ) → Asks bytes (line.Board n) → (ServedSize limits n → ⊥) → Next limits bytes g g (line_of (games.refused 3 0)) Refused
+  unreadable : (p : ℕ) → Stops Readable bytes p → Next limits bytes g g (codes "refused 1 at " ++ decimal p) Refused
+  answered : {h : games.Game} (call : Call) (a : games.Answer) → Says bytes call → (Unserved limits call → ⊥) → (Beyond limits g call → ⊥) →
+      games.Right g (asked call) a h → Next limits bytes g h (line_of a) (answer_is_taken a)
+  beyond : (call : Call) → Says bytes call → Beyond limits g call → Next limits bytes g g (line_of games.too_many) Taken
+  -- a call that the program does not serve
+  unserved : (call : Call) → Says bytes call → Unserved limits call → Next limits bytes g g (codes "refused 1 at " ++ decimal 0) Refused
+
+-- such a line is written behind what was there
+abbrev pub Told : Limits → List ℕ → games.Game → games.Game → Served → List ℕ → List ℕ → Type 0
+Told limits bytes g h served before after = (added : List ℕ) × (after ≡ before ++ added) × Next limits bytes g h added served
 
 -- what opening a board of size n gives
-abbrev pub Opens : ℕ → ℕ → Option Desk → Type 0
-Opens largest n None = ServedSize largest n → ⊥
-Opens largest n (Some d) = ServedSize largest n × (desk_game d ≡ games.new_game n)
+abbrev pub Opens : Limits → ℕ → Option Desk → Type 0
+Opens limits n None = ServedSize limits n → ⊥
+Opens limits n (Some d) = ServedSize limits n × (desk_game d ≡ games.new_game n)
 
 -- and the line that tells it
 abbrev pub opening : ℕ → Option Desk → List ℕ
@@ -53,19 +86,28 @@ opening n None = line_of (games.refused 3 0)
 opening n (Some d) = codes "board " ++ decimal n
 
 -- Before the first board only `board N` is served: the board that is open then, if one is, and the line that is written.
-pub data First (largest : ℕ) (bytes : List ℕ) : Option Desk → List ℕ → Type 0 where
-  opened : (n : ℕ) (d : Option Desk) → Asks bytes (line.Board n) → Opens largest n d → First largest bytes d (opening n d)
-  call_before : (call : Call) → Says bytes call → First largest bytes None (codes "refused 1 at " ++ decimal 0)
-  unreadable : (p : ℕ) → Stops Readable bytes p → First largest bytes None (codes "refused 1 at " ++ decimal 0)
+pub data First (limits : Limits) (bytes : List ℕ) : Option Desk → List ℕ → Type 0 where
+  opened : (n : ℕ) (d : Option Desk) → Asks bytes (line.Board n) → Opens limits n d → First limits bytes d (opening n d)
+  call_before : (call : Call) → Says bytes call → First limits bytes None (codes "refused 1 at " ++ decimal 0)
+  unreadable : (p : ℕ) → Stops Readable bytes p → First limits bytes None (codes "refused 1 at " ++ decimal 0)
+
+-- such a line is written behind what was there
+abbrev pub ToldFirst : Limits → List ℕ → Option Desk → List ℕ → List ℕ → Type 0
+ToldFirst limits bytes d before after = (added : List ℕ) × (after ≡ before ++ added) × First limits bytes d added
+
+-- what a first line is: taken, if it opened a board
+abbrev pub first_served : Option Desk → Served
+first_served None = Refused
+first_served (Some d) = Taken
 
 -- a new board in the place of game g, or a refusal
-abbrev pub Reopened : ℕ → ℕ → games.Game → games.Game → List ℕ → List ℕ → Type 0
-Reopened largest n g h before after =
-    (ServedSize largest n × (h ≡ games.new_game n) × (after ≡ before ++ (codes "board " ++ decimal n)))
-    ⊎ ((ServedSize largest n → ⊥) × (h ≡ g) × (after ≡ before ++ line_of (games.refused 3 0)))
+abbrev pub Reopened : Limits → ℕ → games.Game → games.Game → Served → List ℕ → List ℕ → Type 0
+Reopened limits n g h served before after =
+    (ServedSize limits n × (h ≡ games.new_game n) × (served ≡ Taken) × (after ≡ before ++ (codes "board " ++ decimal n)))
+    ⊎ ((ServedSize limits n → ⊥) × (h ≡ g) × (served ≡ Refused) × (after ≡ before ++ line_of (games.refused 3 0)))
 
--- a line, with the board there was or none; what is written after what was there, and the board there is then
-abbrev pub LineServed : ℕ → List ℕ → Option Desk → Option Desk → List ℕ → List ℕ → Type 0
-LineServed largest bytes None e before after = (added : List ℕ) × (after ≡ before ++ added) × First largest bytes e added
-LineServed largest bytes (Some d) None before after = ⊥
-LineServed largest bytes (Some d) (Some e) before after = (added : List ℕ) × (after ≡ before ++ added) × Next largest bytes (desk_game d) (desk_game e) added
+-- a line, with the board there was or none; what is written after what was there, the board there is then, and whether it was taken
+abbrev pub LineServed : Limits → List ℕ → Option Desk → Option Desk → Served → List ℕ → List ℕ → Type 0
+LineServed limits bytes None e served before after = (served ≡ first_served e) × ToldFirst limits bytes e before after
+LineServed limits bytes (Some d) None served before after = ⊥
+LineServed limits bytes (Some d) (Some e) served before after = Told limits bytes (desk_game d) (desk_game e) served before after

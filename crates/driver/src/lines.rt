@@ -1,47 +1,19 @@
 // One line in, one line out.
-ghost use Rattle.std.specs.Prelude.{◌≡◌, ℕ, ◌<◌, ◌≤◌, List, ◌++◌, IfOk, string_bytes, codes, decimal, OnOk};
-ghost use Rattle.wire.specs.Formal.{asked, told as answered};
-ghost use Rattle.wire.specs.Answers.{line_of};
-ghost use Rattle.session.specs.Desks.{desk_game, told};
-ghost use Rattle.hexboard.specs.Games as games;
+ghost use Rattle.std.specs.Prelude.{◌≡◌, ℕ, List, ◌++◌, IfOk, string_bytes, codes, decimal, OnOk};
+ghost use Rattle.session.specs.Desks.{desk_game};
+ghost use Rattle.session.specs.Replies.{replied};
 ghost use Rattle.text.specs.Lines.{Asks};
-ghost use Rattle.driver.specs.Served.{trimmed, Opens, opening, Reopened, First, Called, Next, LineServed};
+ghost use Rattle.driver.specs.Served.{trimmed, answer_is_taken, first_served, Opens, opening, Reopened, Called, Told, ToldFirst, LineServed};
 
-use session::{Desk, Unopened};
+use crate::failed::Failed;
+use crate::limits::Limits;
+use crate::served::Served;
+use session::{Desk, Reply, Unopened};
 use std::alloc::Global;
-use std::error::Error;
 use std::fmt;
 use std::fmt::Write;
 use text::{Line, read_line, write_answer, write_refusal};
-use wire::{Answer, Call, Refusal};
-
-// There is no memory for the line that is to be written, or for the board.
-#[derive(Clone, Copy, Debug)]
-pub struct Failed;
-
-impl fmt::Display for Failed {
-    fn fmt<W: fmt::Write>(&self, f: &mut fmt::Formatter<W>) -> fmt::Result {
-        f.write_str("there is no memory")
-    }
-}
-
-impl Error for Failed {}
-
-impl From<fmt::Error> for Failed {
-    fn from(_: fmt::Error) -> Self {
-        Failed
-    }
-}
-
-// Adds the answer to a move or to a take-back.
-fn write_told(out: &mut String, res: Result<u16, Refusal>) -> fmt::Result
-    ensures { OnOk result (string_bytes out.new ≡ string_bytes out.old ++ line_of (told res)) }
-{
-    match res {
-        Ok(number) => Ok(write!(out, "{number}")?),
-        Err(why) => write_refusal(out, why),
-    }
-}
+use wire::{Call, Refusal};
 
 // Adds that a line cannot be read, and the place of its first byte that does not fit.
 fn write_unreadable(out: &mut String, place: usize) -> fmt::Result
@@ -60,10 +32,10 @@ fn write_opened(out: &mut String, n: u16) -> fmt::Result
 }
 
 // A board no larger than the program serves, or none where n is out of range.
-fn open(heap: Global, largest: u16, n: u16) -> Result<Option<Desk>, Failed>
-    ensures { IfOk result (Opens largest n) }
+fn open(heap: Global, limits: Limits, n: u16) -> Result<Option<Desk>, Failed>
+    ensures { IfOk result (Opens limits n) }
 {
-    if n > largest {
+    if n > limits.largest {
         return Ok(None);
     }
     match Desk::open(heap, n) {
@@ -76,14 +48,14 @@ fn open(heap: Global, largest: u16, n: u16) -> Result<Option<Desk>, Failed>
 // A line before the first board: only `board N` is served.
 pub fn first_line(
     heap: Global,
-    largest: u16,
+    limits: Limits,
     line: &[u8],
     out: &mut String,
 ) -> Result<Option<Desk>, Failed>
-    ensures { IfOk result (λ d. (added : List ℕ) × (string_bytes out.new ≡ string_bytes out.old ++ added) × First largest line.now d added) }
+    ensures { IfOk result (λ d. ToldFirst limits line.now d (string_bytes out.old) (string_bytes out.new)) }
 {
     match read_line(line) {
-        Ok(asked) => follow_first(heap, largest, asked, out),
+        Ok(asked) => follow_first(heap, limits, asked, out),
         Err(_place) => {
             write_unreadable(out, 0)?;
             Ok(None)
@@ -94,17 +66,14 @@ pub fn first_line(
 // What a line asks for before the first board.
 fn follow_first(
     heap: Global,
-    largest: u16,
+    limits: Limits,
     line: Line,
     out: &mut String,
 ) -> Result<Option<Desk>, Failed>
-    ensures { IfOk result (λ d. (bytes : List ℕ) → Asks bytes line → (added : List ℕ) × (string_bytes out.new ≡ string_bytes out.old ++ added) × First largest bytes d added) }
+    ensures { IfOk result (λ d. (bytes : List ℕ) → Asks bytes line → ToldFirst limits bytes d (string_bytes out.old) (string_bytes out.new)) }
 {
     match line {
-        Line::Board(n) => {
-            let opened = open_first(heap, largest, n, out)?;
-            Ok(opened)
-        }
+        Line::Board(n) => open_first(heap, limits, n, out),
         Line::Call(_call) => {
             write_unreadable(out, 0)?;
             Ok(None)
@@ -113,10 +82,15 @@ fn follow_first(
 }
 
 // The first board, or a refusal.
-fn open_first(heap: Global, largest: u16, n: u16, out: &mut String) -> Result<Option<Desk>, Failed>
-    ensures { IfOk result (λ d. Opens largest n d × (string_bytes out.new ≡ string_bytes out.old ++ opening n d)) }
+fn open_first(
+    heap: Global,
+    limits: Limits,
+    n: u16,
+    out: &mut String,
+) -> Result<Option<Desk>, Failed>
+    ensures { IfOk result (λ d. Opens limits n d × (string_bytes out.new ≡ string_bytes out.old ++ opening n d)) }
 {
-    match open(heap, largest, n)? {
+    match open(heap, limits, n)? {
         Some(desk) => {
             write_opened(out, n)?;
             Ok(Some(desk))
@@ -131,110 +105,125 @@ fn open_first(heap: Global, largest: u16, n: u16, out: &mut String) -> Result<Op
 // A line on the board there is.
 pub fn next_line(
     heap: Global,
-    largest: u16,
+    limits: Limits,
     desk: &mut Desk,
     line: &[u8],
     out: &mut String,
-) -> Result<(), Failed>
-    ensures { OnOk result ((added : List ℕ) × (string_bytes out.new ≡ string_bytes out.old ++ added) × Next largest line.now (desk_game desk.old) (desk_game desk.new) added) }
+) -> Result<Served, Failed>
+    ensures { IfOk result (λ served. Told limits line.now (desk_game desk.old) (desk_game desk.new) served (string_bytes out.old) (string_bytes out.new)) }
 {
     match read_line(line) {
-        Err(place) => write_unreadable(out, place)?,
-        Ok(asked) => follow(heap, largest, asked, desk, out)?,
+        Err(place) => {
+            write_unreadable(out, place)?;
+            Ok(Served::Refused)
+        }
+        Ok(asked) => follow(heap, limits, asked, desk, out),
     }
-    Ok(())
 }
 
 // What a line asks for on the board there is.
 fn follow(
     heap: Global,
-    largest: u16,
+    limits: Limits,
     line: Line,
     desk: &mut Desk,
     out: &mut String,
-) -> Result<(), Failed>
-    ensures { OnOk result ((bytes : List ℕ) → Asks bytes line → (added : List ℕ) × (string_bytes out.new ≡ string_bytes out.old ++ added) × Next largest bytes (desk_game desk.old) (desk_game desk.new) added) }
+) -> Result<Served, Failed>
+    ensures { IfOk result (λ served. (bytes : List ℕ) → Asks bytes line → Told limits bytes (desk_game desk.old) (desk_game desk.new) served (string_bytes out.old) (string_bytes out.new)) }
 {
     match line {
-        Line::Board(n) => reopen(heap, largest, n, desk, out)?,
-        Line::Call(call) => serve(desk, call, out)?,
+        Line::Board(n) => reopen(heap, limits, n, desk, out),
+        Line::Call(call) => serve(limits, desk, call, out),
     }
-    Ok(())
 }
 
-// A call on the board there is.
-fn serve(desk: &mut Desk, call: Call, out: &mut String) -> Result<(), Failed>
-    ensures { OnOk result (Called call (desk_game desk.old) (desk_game desk.new) (string_bytes out.old) (string_bytes out.new)) }
+// A call on the board there is. A call that the program does not serve cannot be read, and an end that is too long for it is not
+// looked into.
+fn serve(limits: Limits, desk: &mut Desk, call: Call, out: &mut String) -> Result<Served, Failed>
+    ensures { IfOk result (λ served. Called limits call (desk_game desk.old) (desk_game desk.new) served (string_bytes out.old) (string_bytes out.new)) }
 {
-    match call {
-        Call::Move(cell) => write_told(out, desk.make_move(cell))?,
-        Call::Back => write_told(out, desk.take_back())?,
-        Call::Who => write_who(out, desk)?,
-        Call::CanForce => write_unreadable(out, 0)?,
+    if limits.leaves_out(call) {
+        write_unreadable(out, 0)?;
+        return Ok(Served::Refused);
     }
-    Ok(())
+    let reply = if limits.is_beyond(desk, call) {
+        Reply::TooMany
+    } else {
+        desk.serve(call)
+    };
+    write_answer(out, reply.answer(desk.way()))?;
+    Ok(served_by(reply))
 }
 
-// Adds who has connected and how, or 0 if nobody has.
-fn write_who(out: &mut String, desk: &mut Desk) -> fmt::Result
-    ensures { OnOk result ((a : games.Answer) × (string_bytes out.new ≡ string_bytes out.old ++ line_of a) × games.Right (desk_game desk.old) games.who a (desk_game desk.new)) }
+// A reply is a refusal, or what was asked is taken.
+fn served_by(reply: Reply) -> Served
+    ensures { (way : List ℕ) → result ≡ answer_is_taken (replied reply way) }
 {
-    match desk.who() {
-        None => write_told(out, Ok(0))?,
-        Some((side, count)) => {
-            let bytes = desk.way();
-            let end = (2 * count as usize).min(bytes.len());
-            write_answer(out, Answer::Way(side, &bytes[0..end]))?;
+    match reply {
+        Reply::Refused(_) => Served::Refused,
+        Reply::Number(_) | Reply::Way(..) | Reply::Yes(_) | Reply::No | Reply::TooMany => {
+            Served::Taken
         }
     }
-    Ok(())
 }
 
 // A new board in the place of the one there is, unless n is out of range.
 fn reopen(
     heap: Global,
-    largest: u16,
+    limits: Limits,
     n: u16,
     desk: &mut Desk,
     out: &mut String,
-) -> Result<(), Failed>
-    ensures { OnOk result (Reopened largest n (desk_game desk.old) (desk_game desk.new) (string_bytes out.old) (string_bytes out.new)) }
+) -> Result<Served, Failed>
+    ensures { IfOk result (λ served. Reopened limits n (desk_game desk.old) (desk_game desk.new) served (string_bytes out.old) (string_bytes out.new)) }
 {
-    match open(heap, largest, n)? {
+    match open(heap, limits, n)? {
         Some(opened) => {
             *desk = opened;
             write_opened(out, n)?;
+            Ok(Served::Taken)
         }
-        None => write_refusal(out, Refusal::BadSize)?,
+        None => {
+            write_refusal(out, Refusal::BadSize)?;
+            Ok(Served::Refused)
+        }
     }
-    Ok(())
 }
 
-// A line, with the board there is or none yet; the board that there is then. A carriage return at its end is left out.
+// A line, with the board there is or none yet, which becomes the board that there is then. A carriage return at its end is left out.
 pub fn answer_line(
     heap: Global,
-    largest: u16,
-    desk: Option<Desk>,
+    limits: Limits,
+    desk: &mut Option<Desk>,
     line: &[u8],
     out: &mut String,
-) -> Result<Option<Desk>, Failed>
-    ensures { IfOk result (λ e. LineServed largest (trimmed line.now) desk e (string_bytes out.old) (string_bytes out.new)) }
+) -> Result<Served, Failed>
+    ensures { IfOk result (λ served. LineServed limits (trimmed line.now) desk.old desk.new served (string_bytes out.old) (string_bytes out.new)) }
 {
     let line = without_return(line);
     match desk {
+        Some(desk) => next_line(heap, limits, desk, line, out),
         None => {
-            let opened = first_line(heap, largest, line, out)?;
-            Ok(opened)
+            let first = first_line(heap, limits, line, out)?;
+            let served = first_served(&first);
+            *desk = first;
+            Ok(served)
         }
-        Some(mut desk) => {
-            next_line(heap, largest, &mut desk, line, out)?;
-            Ok(Some(desk))
-        }
+    }
+}
+
+// A first line is taken if it opened a board.
+fn first_served(opened: &Option<Desk>) -> Served
+    ensures { result ≡ first_served opened.now }
+{
+    match opened {
+        Some(_) => Served::Taken,
+        None => Served::Refused,
     }
 }
 
 // The line without the carriage return that some files have before each line's end.
-fn without_return(line: &[u8]) -> &[u8]
+pub(crate) fn without_return(line: &[u8]) -> &[u8]
     ensures { result.now ≡ trimmed line.now }
 {
     let len = line.len();

@@ -4,13 +4,12 @@
 ghost use Rattle.std.specs.Prelude.{◌≡◌, MatchOption, ◌≢◌};
 ghost use Rattle.programs.specs.Flags.{written};
 
+mod printing;
+
 use anyhow::anyhow;
-use play::Desk;
-use serving::{
-    Kind, Limits, Times, answer_line, kind_of, write_marked_position, write_position, write_times,
-};
+use driver::{Limits, Times, answer_line, kind_of, write_times};
+pub use printing::{Answers, Last, Line, Positions, Printing};
 use std::env;
-use std::fmt::Write;
 use std::io::{BufRead, BufReader};
 use std::time::Instant;
 
@@ -36,33 +35,27 @@ A line that is refused is answered by 'refused R at P', and changes nothing:
 
 ";
 
-// What a program prints for its lines.
-#[derive(Clone, Copy)]
-pub enum Prints {
-    // Each answer.
-    Answers,
-    // Each answer, and the position after each line that leads to one.
-    Positions,
-    // The position at the end; refusals, with the number of the line, on standard error.
-    Last,
-}
-
-// A program: its name, what --help tells of it alone, how far it goes, what it prints, and whether it takes --show and --times.
+// A program: its name, what --help tells of it alone, and how far it goes.
 #[derive(Clone, Copy)]
 pub struct Program {
     pub name: &'static str,
     pub help: &'static str,
     pub limits: Limits,
-    pub prints: Prints,
-    pub flags: bool,
 }
 
 // An argument.
-#[derive(Clone, Copy)]
+#[derive(Clone, Copy, PartialEq, Eq)]
 enum Flag {
     Help,
     Show,
     Times,
+}
+
+// What the arguments ask for besides --help.
+#[derive(Clone, Copy)]
+struct Asked {
+    show: bool,
+    times: bool,
 }
 
 fn read_flag(argument: &str) -> Option<Flag>
@@ -76,17 +69,38 @@ fn read_flag(argument: &str) -> Option<Flag>
     }
 }
 
-// Does what the arguments ask for.
-pub fn run(rt: &HostRuntime, program: Program) -> anyhow::Result<()> {
-    let mut prints = program.prints;
-    let mut timed = false;
-    let mut arguments = env::args(rt)?;
-    let _ = arguments.next();
-    for argument in arguments {
+// Does what the arguments of a program ask for that takes none but --help.
+pub fn run<P: Printing>(rt: &HostRuntime, program: Program, printing: &P) -> anyhow::Result<()> {
+    match read_arguments(rt, program, &[])? {
+        Some(_) => serve_input(rt, program.limits, printing, false),
+        None => print_help(rt, program),
+    }
+}
+
+// Does what the arguments of a program ask for that takes --show and --times.
+pub fn run_with_flags(rt: &HostRuntime, program: Program) -> anyhow::Result<()> {
+    match read_arguments(rt, program, &[Flag::Show, Flag::Times])? {
+        Some(Asked { show: true, times }) => serve_input(rt, program.limits, &Positions, times),
+        Some(Asked { show: false, times }) => serve_input(rt, program.limits, &Answers, times),
+        None => print_help(rt, program),
+    }
+}
+
+// What the arguments ask for, of the flags that the program takes; or none if that is --help.
+fn read_arguments(
+    rt: &HostRuntime,
+    program: Program,
+    taken: &[Flag],
+) -> anyhow::Result<Option<Asked>> {
+    let mut asked = Asked {
+        show: false,
+        times: false,
+    };
+    for argument in env::args(rt)?.skip(1) {
         match read_flag(argument.as_str()) {
-            Some(Flag::Help) => return print_help(rt, program),
-            Some(Flag::Show) if program.flags => prints = Prints::Positions,
-            Some(Flag::Times) if program.flags => timed = true,
+            Some(Flag::Help) => return Ok(None),
+            Some(Flag::Show) if taken.contains(&Flag::Show) => asked.show = true,
+            Some(Flag::Times) if taken.contains(&Flag::Times) => asked.times = true,
             _ => {
                 let name = program.name;
                 return Err(anyhow!(
@@ -95,13 +109,14 @@ pub fn run(rt: &HostRuntime, program: Program) -> anyhow::Result<()> {
             }
         }
     }
-    serve_input(rt, program.limits, prints, timed)
+    Ok(Some(asked))
 }
 
 fn print_help(rt: &HostRuntime, program: Program) -> anyhow::Result<()> {
     let Limits { largest, ends } = program.limits;
     rt.print(program.help)?;
     rt.print(LINES)?;
+    let ends = ends.unwrap_or(0);
     println!(rt;
         "Limits: boards from 1 by 1 to {largest} by {largest}; can force with at most {ends} empty cells."
     )?;
@@ -109,83 +124,38 @@ fn print_help(rt: &HostRuntime, program: Program) -> anyhow::Result<()> {
 }
 
 // Serves standard input, line by line.
-fn serve_input(
+pub fn serve_input<P: Printing>(
     rt: &HostRuntime,
     limits: Limits,
-    prints: Prints,
+    printing: &P,
     timed: bool,
 ) -> anyhow::Result<()> {
     let heap = rt.alloc();
     let mut desk = None;
     let mut times = Times::NONE;
     let mut out = String::new(heap);
-    let mut number = 0u64;
-    for line in BufReader::new(heap, rt.stdin())?.split(heap, b'\n') {
+    for (number, line) in (1u64..).zip(BufReader::new(heap, rt.stdin())?.split(heap, b'\n')) {
         let line = line?;
-        let kind = kind_of(line.as_slice());
-        number = number.saturating_add(1);
         out.clear();
         let start = Instant::now(rt)?;
-        let (next, taken) = answer_line(heap, limits, desk, line.as_slice(), &mut out)?;
+        let served = answer_line(heap, limits, &mut desk, line.as_slice(), &mut out)?;
         let took = start.elapsed(rt)?;
-        desk = next;
+        let kind = kind_of(line.as_slice());
         if let Some(kind) = kind {
             times.note(kind, took);
         }
-        print_line(rt, prints, number, kind, taken, &mut desk, &mut out)?;
+        let line = Line {
+            number,
+            kind,
+            served,
+        };
+        printing.print_line(rt, line, &mut desk, &mut out)?;
     }
-    if let Prints::Last = prints {
-        print_last(rt, desk)?;
-    }
+    printing.print_end(rt, &desk)?;
     if timed {
         out.clear();
         write_times(&mut out, times)?;
         rt.eprint(out.as_str())?;
     }
-    Ok(())
-}
-
-// Prints what a line calls for: its answer, and the position that it leads to; or that it was refused.
-fn print_line(
-    rt: &HostRuntime,
-    prints: Prints,
-    number: u64,
-    kind: Option<Kind>,
-    taken: bool,
-    desk: &mut Option<Desk>,
-    out: &mut String,
-) -> anyhow::Result<()> {
-    match prints {
-        Prints::Answers => rt.println(out.as_str())?,
-        Prints::Positions => {
-            rt.println(out.as_str())?;
-            let leads_on = matches!(kind, Some(Kind::Board | Kind::Move | Kind::Back));
-            if taken
-                && leads_on
-                && let Some(desk) = desk
-            {
-                out.clear();
-                write_marked_position(out, desk)?;
-                rt.print(out.as_str())?;
-            }
-        }
-        Prints::Last => {
-            if !taken {
-                eprintln!(rt; "line {number}: {out}")?;
-            }
-        }
-    }
-    Ok(())
-}
-
-// Prints the position at the end, or tells that there is none.
-fn print_last(rt: &HostRuntime, desk: Option<Desk>) -> anyhow::Result<()> {
-    let Some(desk) = desk else {
-        eprintln!(rt; "no board was opened")?;
-        return Ok(());
-    };
-    let mut out = String::new(rt.alloc());
-    write_position(&mut out, &desk)?;
-    rt.print(out.as_str())?;
     Ok(())
 }

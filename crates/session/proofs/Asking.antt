@@ -1,38 +1,59 @@
 -- Who has connected, and the way that shows it.
-use Rattle.std.proofs.Common.{◌≡◌, ℕ, ◌*◌, true, List, length, take, is_some, Some, None, Option, refl, ap, ◌∙◌, subst}
-use Rattle.hexboard.specs.Board.{Board, Connects}
+use Rattle.std.proofs.Common.{◌≡◌, ℕ, ◌+◌, ◌-◌, ◌*◌, min, List, [], ◌∷◌, length, take, Some, None, Option, sym, refl, ap, ◌∙◌, subst, ⊎_elim, arith, MatchOption}
+use Rattle.std.proofs.lemmas.List.{take_all}
+use Rattle.std.proofs.str.Laws.{order}
+use Rattle.hexboard.specs.Board.{Connects}
 use Rattle.hexboard.specs.Geometry.{laid}
 use Rattle.hexboard.specs.Games as games
 use Rattle.hexboard.specs.Sides.{number}
-use Rattle.hexboard.specs.declared.side.Side.{Side}
 use Rattle.hexboard.specs.Words.{words}
-use Rattle.paths.specs.Ways.{Answered, Written}
+use Rattle.hexboard.specs.declared.side.Side.{Side}
+use Rattle.paths.specs.Ways.{Written}
 use Rattle.groups.proofs.Positions.{board_cells}
 use Rattle.history.specs.Holds.{won_by, Memory, moves_in, formal, Holds}
 use Rattle.history.specs.declared.game.Game.{Game}
-use Rattle.history.proofs.Serving.{winner_connects, right_way}
+use Rattle.history.proofs.Serving.{some_side, not_won, winner_connects, right_way}
+use Rattle.history.proofs.Turns.{winner_open, winner_won}
+use Rattle.session.specs.declared.reply.Reply.TheVariants as reply
+use Rattle.wire.specs.declared.refusal.Refusal.{Refusal}
+
+-- the front of some bytes, cut at their end if it would be longer
+pub front_of : (bytes : List ℕ) (e k : ℕ) → e ≡ min k (length bytes) → take k bytes ≡ take (e - 0) bytes
+front_of bytes e k cut =
+    ⊎_elim
+    (λ less. let z : k ≡ e - 0 = omega arith in ap (λ j. take j bytes) z)
+    (λ more. let z : length bytes ≡ e - 0 = omega arith in take_all k bytes more ∙ (sym (take_all (length bytes) bytes (omega arith)) ∙ ap (λ j. take j bytes) z))
+    (order k (length bytes))
 
 -- there is a stone's byte for each cell
 pub stones_long : (g : Game) (m : Memory) → Holds g m → length m.stones ≡ g.size.n * g.size.n
 stones_long g m h = ap length h.kept.stones_are ∙ board_cells g.size.n (moves_in g m) h.played.legal
 
--- a side that has connected has a way that is found
-pub found_some : (b : Board) (s : ℕ) (old new : List ℕ) (o : Option ℕ) → Answered b s old new o → Connects b s → is_some o ≡ true
-found_some b s old new None no' c = absurd (no'.0 c)
-found_some b s old new (Some k) found c = refl
-
-written_at : (b : Board) (s : ℕ) (old new : List ℕ) (o : Option ℕ) (k : ℕ) → Answered b s old new o → o ≡ Some k → Written b s old new k
-written_at b s old new o k found e = subst (Answered b s old new) e found
-
--- and it is the right answer
-pub right_found : (g : Game) (m : Memory) → Holds g m → (side : Side) → won_by g.winner ≡ number side → (old new : List ℕ) (o : Option ℕ) (k : ℕ) →
-    Answered (laid g.size.n m.stones) (number side) old new o → o ≡ Some k →
+-- a way of the winner that was written to the front of some bytes is the right answer
+pub right_found : (g : Game) (m : Memory) → Holds g m → (side : Side) → won_by g.winner ≡ number side → (old new : List ℕ) (k : ℕ) →
+    Written (laid g.size.n m.stones) (number side) old new k →
     games.Right (formal g m) games.who (games.way (number side) (words (take (2 * k) new))) (formal g m)
-right_found g m h side e old new o k found is =
-    let w = written_at _ _ old new o k found is in
+right_found g m h side e old new k w =
     right_way g m h (number side) _ (winner_connects g m h side e).1 w.shortest.way w.shortest.few
 
--- what was found on the board that was lent is found on the desk's board
-pub found_here : (n n' : ℕ) (cells cells' : List ℕ) (s : ℕ) (old new : List ℕ) (o : Option ℕ) → n' ≡ n → cells' ≡ cells →
-    Answered (laid n' cells') s old new o → Answered (laid n cells) s old new o
-found_here n n' cells cells' s old new o e f = subst (λ b. Answered b s old new o) (λ i. laid (e i) (f i))
+-- no other reply is a refusal
+pub not_refused_number : (n : ℕ) (why : Refusal) → reply.Number n ≡ reply.Refused why → ⊥
+not_refused_number n why e = let z : ◌≡◌ {A = ℕ} 0 1 = cc in omega arith
+
+pub not_refused_way : (side : Side) (k : ℕ) (why : Refusal) → reply.Way side k ≡ reply.Refused why → ⊥
+not_refused_way side k why e = let z : ◌≡◌ {A = ℕ} 0 1 = cc in omega arith
+
+pub not_refused_yes : (n : ℕ) (why : Refusal) → reply.Yes n ≡ reply.Refused why → ⊥
+not_refused_yes n why e = let z : ◌≡◌ {A = ℕ} 0 1 = cc in omega arith
+
+pub not_refused_no : (why : Refusal) → reply.No ≡ reply.Refused why → ⊥
+not_refused_no why e = let z : ◌≡◌ {A = ℕ} 0 1 = cc in omega arith
+
+pub not_refused_many : (why : Refusal) → reply.TooMany ≡ reply.Refused why → ⊥
+not_refused_many why e = let z : ◌≡◌ {A = ℕ} 0 1 = cc in omega arith
+
+-- nobody has won, or the winner has connected
+pub won_or_nobody : (g : Game) (m : Memory) → Holds g m → (r : Option Side) → r ≡ g.winner → MatchOption r (games.Won (formal g m) → ⊥) (λ side. Connects (formal g m).board (number side))
+won_or_nobody g m h None e = not_won (formal g m) (winner_open g.size.n (moves_in g m) h.played (sym h.winner ∙ ap won_by (sym e)))
+won_or_nobody g m h (Some side) e =
+    (winner_won g.size.n (moves_in g m) h.played (number side) (sym h.winner ∙ ap won_by (sym e)) (some_side side)).0

@@ -1,2 +1,5 @@
+pub mod Keeping
 pub mod Asking
-pub mod Facts
+pub mod Showing
+pub mod Running
+pub mod Forcing

@@ -1,16 +1,17 @@
 -- What a desk keeps between calls, as a fact that holds in at most one way, so that it can stand in the desk's type.
-use Rattle.std.specs.Prelude.{◌≡◌, ℕ, ◌-◌, ◌*◌, ◌<◌, ◌++◌, length, take}
+use Rattle.std.specs.Prelude.{◌≡◌, ℕ, ◌-◌, ◌*◌, ◌<◌, ◌≤◌, ◌++◌, length, take}
 use Rattle.hexboard.specs.Board.{all_cells, Connects}
 use Rattle.hexboard.specs.Words.{words}
 use Rattle.groups.specs.Forest.{held}
 use Rattle.groups.specs.Moves.{board_of, forest_of, Legal}
+use Rattle.verdict.specs.Verdicts.{bytes_of_table}
 use Rattle.history.specs.Played.{winner_of}
 use Rattle.history.specs.Holds.{won_by, Memory, moves_in}
 use Rattle.history.specs.declared.game.Game.{Game}
 
--- room for a search on a board n wide, and for the way that it finds: two bytes a cell each
-abbrev pub Room : ℕ → ℕ → ℕ → ℕ → Type 0
-Room n queue from way = (queue ≡ 2 * (n * n)) × (from ≡ 2 * (n * n)) × (way ≡ 2 * (n * n))
+-- room on a board n wide for the searches and for the cells of a way
+abbrev pub Roomy : ℕ → ℕ → ℕ → Type 0
+Roomy n scratch way = (4 * (n * n) ≤ scratch) × (2 * (n * n) ≤ way) × (bytes_of_table n ≤ scratch)
 
 -- the moves that are in memory can be made
 abbrev pub Fair : Game → Memory → Type 0

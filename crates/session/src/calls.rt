@@ -1,14 +1,22 @@
 // Opening a desk, and its calls. Each answer is right by the rules for the games before and after it.
-ghost use Rattle.std.specs.Prelude.{◌≡◌, ℕ, ◌<◌, ◌≤◌, IfOk};
+ghost use Rattle.std.specs.Prelude.{◌≡◌, ℕ, ◌<◌, ◌≤◌, IfOk, MatchOption};
+ghost use Rattle.hexboard.specs.Board.{Connects, empties};
 ghost use Rattle.hexboard.specs.Games as games;
+ghost use Rattle.hexboard.specs.Sides.{number};
 ghost use Rattle.history.specs.Holds.{won_by};
 ghost use Rattle.history.specs.Played.{winner_of};
-ghost use Rattle.session.specs.Desks.{desk_game, told, told_who, Opened};
+ghost use Rattle.session.specs.Desks.{desk_game, Opened};
+ghost use Rattle.session.specs.Replies.{replied};
+ghost use Rattle.session.specs.Told.{told, told_who};
+ghost use Rattle.wire.specs.Formal.{asked};
 
-use crate::desk::{Desk, Unopened};
+use crate::desk::Desk;
+use crate::reply::Reply;
+use crate::serve::{serve, who};
+use crate::unopened::Unopened;
 use hexboard::{Side, Size};
 use std::alloc::{AllocError, Global};
-use wire::Refusal;
+use wire::{Call, Refusal};
 
 impl Desk {
     // A new game on a board n wide and n tall, n from 1 to 19. All memory that it will ever need is asked for here.
@@ -18,9 +26,7 @@ impl Desk {
         let Some(size) = Size::new(n) else {
             return Err(Unopened::Refused(Refusal::BadSize));
         };
-        let Ok(desk) = Desk::of_size(heap, size) else {
-            return Err(Unopened::NoMemory);
-        };
+        let desk = Desk::of_size(heap, size)?;
         Ok(desk)
     }
 
@@ -32,8 +38,7 @@ impl Desk {
         let mut log = vec![in heap; 0; cells * 2]?;
         let mut parents = vec![in heap; 0; cells * 2]?;
         let mut borders = vec![in heap; 0; cells]?;
-        let queue = vec![in heap; 0; cells * 2]?;
-        let from = vec![in heap; 0; cells * 2]?;
+        let scratch = vec![in heap; 0; verdict::table_bytes(size)]?;
         let way = vec![in heap; 0; cells * 2]?;
         let game = history::start(size, &mut stones, &mut log, &mut parents, &mut borders);
         Ok(Desk {
@@ -42,8 +47,7 @@ impl Desk {
             log,
             parents,
             borders,
-            queue,
-            from,
+            scratch,
             way,
         })
     }
@@ -53,56 +57,54 @@ impl Desk {
         ensures { games.Right (desk_game self.old) (games.moves cell) (told result) (desk_game self.new) }
     {
         let number = self.game.count();
-        match history::make_move(
+        self.game = history::make_move(
             self.game,
             cell,
             &mut self.stones,
             &mut self.log,
             &mut self.parents,
             &mut self.borders,
-        ) {
-            Ok(game) => {
-                self.game = game;
-                Ok(number)
-            }
-            Err(why) => Err(why),
-        }
+        )?;
+        Ok(number)
     }
 
     // Takes the last move back: how many moves are left.
     pub fn take_back(&mut self) -> Result<u16, Refusal>
         ensures { games.Right (desk_game self.old) games.back (told result) (desk_game self.new) }
     {
-        match history::take_back(
+        self.game = history::take_back(
             self.game,
             &mut self.stones,
             &mut self.log,
             &mut self.parents,
             &mut self.borders,
-        ) {
-            Ok(game) => {
-                self.game = game;
-                Ok(game.count())
-            }
-            Err(why) => Err(why),
-        }
+        )?;
+        Ok(self.game.count())
     }
 
     // Who has connected, and how: the side, and how many cells its way has. `way` then gives them.
     pub fn who(&mut self) -> Option<(Side, u16)>
         ensures { games.Right (desk_game self.old) games.who (told_who result self.new.way.items) (desk_game self.new) }
     {
-        let side = self.game.winner()?;
-        let size = self.game.size();
-        let found = paths::find_way(
-            size,
-            side,
-            &self.stones,
-            &mut self.queue,
-            &mut self.from,
+        who(self.game, &self.stones, &mut self.scratch, &mut self.way)
+    }
+
+    // Serves a call. If the answer is a way, `way` then gives its cells.
+    pub fn serve(&mut self, call: Call) -> Reply
+        ensures { games.Right (desk_game self.old) (asked call) (replied result self.new.way.items) (desk_game self.new) }
+    {
+        let (game, reply) = serve(
+            self.game,
+            call,
+            &mut self.stones,
+            &mut self.log,
+            &mut self.parents,
+            &mut self.borders,
+            &mut self.scratch,
             &mut self.way,
         );
-        Some((side, found.unwrap()))
+        self.game = game;
+        reply
     }
 
     // The bytes of the way that was found last, two a cell, low byte first.
@@ -112,11 +114,20 @@ impl Desk {
         &self.way
     }
 
-    // Who has won.
+    // Who has won: the side that has connected, or nobody.
     pub fn winner(&self) -> Option<Side>
-        ensures { won_by result ≡ winner_of self.now.game.size.n (desk_game self.now).moves }
+        ensures connected { MatchOption result (games.Won (desk_game self.now) → ⊥) (λ side. Connects (desk_game self.now).board (number side)) }
+        ensures by_moves { won_by result ≡ winner_of self.now.game.size.n (desk_game self.now).moves }
     {
         self.game.winner()
+    }
+
+    // How many cells are empty: as many as moves are left to make.
+    pub fn empty_cells(&self) -> u16
+        ensures { result ≡ empties (desk_game self.now).board.cells }
+    {
+        let cells = self.game.size().cells();
+        cells - self.game.count()
     }
 
     // The board's size.
@@ -137,36 +148,15 @@ impl Desk {
 #[cfg(test)]
 mod tests {
     use super::*;
+    use crate::tests::opened;
     use std::test::Fail;
-
-    fn opened(heap: Global, n: u16) -> Result<Desk, Fail> {
-        let Ok(desk) = Desk::open(heap, n) else {
-            return Err(Fail::new("not opened"));
-        };
-        Ok(desk)
-    }
-
-    fn refused(heap: Global, n: u16) -> bool {
-        matches!(
-            Desk::open(heap, n),
-            Err(Unopened::Refused(Refusal::BadSize))
-        )
-    }
-
-    #[test]
-    fn sizes_out_of_range(rt: HostRuntime) {
-        assert!(rt; refused(rt.alloc(), 0));
-        assert!(rt; refused(rt.alloc(), 20));
-    }
 
     #[test]
     fn each_side_can_win(rt: HostRuntime) -> Result<(), Fail> {
         let mut desk = opened(rt.alloc(), 3)?;
         assert_eq!(rt; desk.take_back(), Err(Refusal::NoMove));
-        let mut number = 0;
-        for cell in [4, 0, 8, 2, 6, 3, 5, 1] {
+        for (number, cell) in (0u16..).zip([4, 0, 8, 2, 6, 3, 5, 1]) {
             assert_eq!(rt; desk.make_move(cell), Ok(number));
-            number = u16::wrapping_add(number, 1);
         }
         assert_eq!(rt; desk.winner(), Some(Side::Two));
         assert_eq!(rt; desk.make_move(7), Err(Refusal::Over));
@@ -188,7 +178,7 @@ mod tests {
             desk.make_move(cell)?;
         }
         assert_eq!(rt; desk.cells().get(48).copied(), Some(2));
-        for left in [4, 3, 2, 1, 0] {
+        for left in (0..5).rev() {
             assert_eq!(rt; desk.take_back(), Ok(left));
         }
         assert_eq!(rt; desk.cells(), [0; 49].as_slice());

@@ -1,17 +1,9 @@
 // A desk owns the memory of its game. After opening it never allocates.
 ghost use Rattle.std.specs.Prelude.{vec_len};
 ghost use Rattle.history.specs.Holds.{lent};
-ghost use Rattle.session.specs.Keeps.{Room, Fair, Written, Grouped};
+ghost use Rattle.session.specs.Keeps.{Roomy, Fair, Written, Grouped};
 
 use history::Game;
-use wire::Refusal;
-
-// Why a desk was not opened: the size is refused, or there is no memory.
-#[derive(Clone, Copy, Drop)]
-pub enum Unopened {
-    Refused(Refusal),
-    NoMemory,
-}
 
 // The board's size, the count of moves and the winner by value; stones, moves and groups in memory, as the moves made them.
 #[derive(Drop)]
@@ -21,11 +13,10 @@ pub struct Desk {
     pub(crate) log: Vec<u8>,
     pub(crate) parents: Vec<u8>,
     pub(crate) borders: Vec<u8>,
-    // Scratch of the search for a way, and the cells of the way that was found last, two bytes each.
-    pub(crate) queue: Vec<u8>,
-    pub(crate) from: Vec<u8>,
+    // Scratch of the searches, and the cells of the way that was found last, two bytes each.
+    pub(crate) scratch: Vec<u8>,
     pub(crate) way: Vec<u8>,
-    ghost room: { Room game.size.n (vec_len queue) (vec_len from) (vec_len way) },
+    ghost room: { Roomy game.size.n (vec_len scratch) (vec_len way) },
     ghost fair: { Fair game (lent stones.items log.items parents.items borders.items) },
     ghost written: { Written game (lent stones.items log.items parents.items borders.items) },
     ghost grouped: { Grouped game (lent stones.items log.items parents.items borders.items) },

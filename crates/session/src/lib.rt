@@ -1,7 +1,19 @@
-// The desk: a game in memory of its own, and what it answers to calls.
+// The desk: games in lent memory or in memory of their own, and what they answer to calls.
 #![tactic(auto)]
 
+mod bytes;
 mod calls;
 mod desk;
+mod lent;
+mod reply;
+mod runs;
+mod serve;
+#[cfg(test)]
+mod tests;
+mod unopened;
 
-pub use desk::{Desk, Unopened};
+pub use desk::Desk;
+pub use lent::{Closed, Parts, call, memory_for, open};
+pub use reply::Reply;
+pub use runs::{Sink, contracts_suffice, run};
+pub use unopened::Unopened;

@@ -1,8 +1,8 @@
 // Shows the board that calls leave, a line each, at the end of the input.
 #![tactic(auto)]
 
-use programs::{Prints, Program};
-use serving::Limits;
+use driver::Limits;
+use programs::{Last, Program};
 
 const HELP: &str =
     "show: reads calls from standard input, a line each, and prints the board that they leave and who has won
@@ -18,10 +18,8 @@ fn main(rt: HostRuntime) -> anyhow::Result<()> {
         help: HELP,
         limits: Limits {
             largest: 7,
-            ends: 10,
+            ends: Some(10),
         },
-        prints: Prints::Last,
-        flags: false,
     };
-    programs::run(&rt, program)
+    programs::run(&rt, program, &Last)
 }

@@ -1,16 +1,12 @@
-use Rattle.std.proofs.Common.{ℕ, List, subst}
+use Rattle.std.proofs.Common.{ℕ, List, string_bytes, subst}
 use Rattle.session.specs.Desks.{desk_game}
-use Rattle.driver.specs.Served.{First, Next}
+use Rattle.driver.specs.Served.{Told}
+use Rattle.driver.proofs.Answering.{made_more}
 use Rattle.driver.proofs.lines.answer_line.Goals as goal
 
-pub returns-in_ok-opened-in-None : goal.returns-in_ok-opened-in-None
-returns-in_ok-opened-in-None c =
-    rw c.in-None.is
-    (let h = c.in_ok-opened-in-None.ensures in
-    (h.0, h.1, subst (λ (xs : List ℕ). First c.args.largest xs c.in_ok-opened-in-None.opened h.0) c.without_return-line.ensures h.2))
-
-pub returns-in_ok-next_line-in-Some : goal.returns-in_ok-next_line-in-Some
-returns-in_ok-next_line-in-Some c =
+pub returns-in-Some : goal.returns-in-Some
+returns-in-Some c =
     rw c.in-Some.is
-    (let h = c.in_ok-next_line-in-Some.ensures in
-    (h.0, h.1, subst (λ (xs : List ℕ). Next c.args.largest xs (desk_game c.in-Some.desk) (desk_game c.next_line.new.desk) h.0) c.without_return-line.ensures h.2))
+    (made_more c.next_line.result
+    (λ served. subst (λ (xs : List ℕ). Told c.args.limits xs (desk_game c.in-Some.desk) (desk_game c.next_line.new.desk) served (string_bytes c.args.out.now) (string_bytes c.next_line.new.out)) c.without_return-line.ensures)
+    c.next_line.ensures)

@@ -1,66 +1,47 @@
-use Rattle.std.proofs.Common.{◌≡◌, sym, ap, subst, arith}
+use Rattle.std.proofs.Common.{◌≡◌, sym, subst, ◌∙◌, arith}
 use Rattle.hexboard.specs.Games as games
 use Rattle.history.specs.Holds.{lent, Holds}
 use Rattle.session.specs.Desks.{memory_of}
-use Rattle.session.proofs.Facts.{holds_from, room_same, keeps_back, right_back, keeps_away, right_away}
+use Rattle.session.specs.Keeps.{Roomy}
+use Rattle.session.proofs.Keeping.{whole, desk_holds, kept_in, memory_back}
 use Rattle.session.proofs.desk.Desk.take_back.Goals as goal
-use Rattle.session.proofs.desk.Desk.take_back.Goals.{After-deref_mut-4}
+use Rattle.session.proofs.desk.Desk.take_back.Goals.{After-deref_mut-4, After-take_back}
 
 -- what is lent is what the desk holds
 lent-now : (c : After-deref_mut-4) →
     lent c.deref_mut.result.now c.deref_mut-2.result.now c.deref_mut-3.result.now c.deref_mut-4.result.now ≡ memory_of c.args.self.now
 lent-now c = λ i. lent (c.deref_mut.ensures.value i) (c.deref_mut-2.ensures.value i) (c.deref_mut-3.ensures.value i) (c.deref_mut-4.ensures.value i)
 
-held-now : (c : After-deref_mut-4) → Holds c.args.self.now.game (memory_of c.args.self.now)
-held-now c = let d = c.args.self.now in holds_from d.game (memory_of d) d.fair d.written d.grouped
-
 pub take_back-requires : goal.take_back-requires
-take_back-requires c = subst (Holds c.args.self.now.game) (sym (lent-now c)) (held-now c)
+take_back-requires c = subst (Holds c.args.self.now.game) (sym (lent-now c)) (desk_holds c.args.self.now)
+
+-- and what it holds afterwards is what was left
+left-now : (c : After-take_back) →
+    let d = c.args.self.now in
+    lent c.take_back.new.stones c.take_back.new.log c.take_back.new.parents c.take_back.new.borders
+    ≡ lent (whole c.take_back.new.stones d.stones.items d.stones.len) (whole c.take_back.new.log d.log.items d.log.len)
+    (whole c.take_back.new.parents d.parents.items d.parents.len) (whole c.take_back.new.borders d.borders.items d.borders.len)
+left-now c =
+    memory_back _ _ _ _ _ _ _ _ _ _ _ _
+    (omega (arith, c.take_back.auto.stones, c.deref_mut.ensures.len)) (omega (arith, c.take_back.auto.log, c.deref_mut-2.ensures.len))
+    (omega (arith, c.take_back.auto.parents, c.deref_mut-3.ensures.len)) (omega (arith, c.take_back.auto.borders, c.deref_mut-4.ensures.len))
 
 pub invariant_of-self : goal.invariant_of-self
 invariant_of-self c =
     let d = c.args.self.now in
-    let kept =
-    keeps_back
-    c.take_back.new.stones c.take_back.new.log c.take_back.new.parents c.take_back.new.borders
-    d.stones.items d.log.items d.parents.items d.borders.items d.stones.len d.log.len d.parents.len d.borders.len
-    (omega (arith, c.take_back.auto.stones, c.deref_mut.ensures.len)) (omega (arith, c.take_back.auto.log, c.deref_mut-2.ensures.len))
-    (omega (arith, c.take_back.auto.parents, c.deref_mut-3.ensures.len)) (omega (arith, c.take_back.auto.borders, c.deref_mut-4.ensures.len))
-    c.in-Ok.game c.in-Ok.ensures.holds
-    in
-    record { room = room_same d.game c.in-Ok.game _ _ _ c.in-Ok.ensures.same_size d.room; fair = kept.0; written = kept.1.0; grouped = kept.1.1.0 }
-
-pub invariant_of-self-in-Err-1 : goal.invariant_of-self-in-Err-1
-invariant_of-self-in-Err-1 c =
-    let d = c.args.self.now in
-    let before = (goal.at.invariant_of-self-in-Err-1 c).After-deref_mut-4 in
-    let kept =
-    keeps_away
-    c.take_back.new.stones c.take_back.new.log c.take_back.new.parents c.take_back.new.borders
-    d.stones.items d.log.items d.parents.items d.borders.items d.stones.len d.log.len d.parents.len d.borders.len
-    (omega (arith, c.take_back.auto.stones, c.deref_mut.ensures.len)) (omega (arith, c.take_back.auto.log, c.deref_mut-2.ensures.len))
-    (omega (arith, c.take_back.auto.parents, c.deref_mut-3.ensures.len)) (omega (arith, c.take_back.auto.borders, c.deref_mut-4.ensures.len))
-    d.game _ (memory_of d) games.back c.in-Err.why (lent-now before) (held-now before) c.in-Err.ensures
-    in
+    let before = goal.at.invariant_of-self c in
+    let same = sym (c.in_err-self.ensures.unchanged ∙ lent-now before.After-deref_mut-4) ∙ left-now before.After-take_back in
+    let kept = kept_in d.game _ (subst (Holds d.game) same (desk_holds d)) in
     record { room = d.room; fair = kept.0; written = kept.1.0; grouped = kept.1.1.0 }
 
-pub returns-in-Ok : goal.returns-in-Ok
-returns-in-Ok c =
+pub invariant_of-self-2 : goal.invariant_of-self-2
+invariant_of-self-2 c =
     let d = c.args.self.now in
-    right_back
-    c.take_back.new.stones c.take_back.new.log c.take_back.new.parents c.take_back.new.borders
-    d.stones.items d.log.items d.parents.items d.borders.items d.stones.len d.log.len d.parents.len d.borders.len
-    (omega (arith, c.take_back.auto.stones, c.deref_mut.ensures.len)) (omega (arith, c.take_back.auto.log, c.deref_mut-2.ensures.len))
-    (omega (arith, c.take_back.auto.parents, c.deref_mut-3.ensures.len)) (omega (arith, c.take_back.auto.borders, c.deref_mut-4.ensures.len))
-    d.game c.in-Ok.game _ (memory_of d) games.back _ (games.number c.count.result)
-    (lent-now (goal.at.returns-in-Ok c).After-deref_mut-4) (ap games.number (sym c.count.ensures)) c.in-Ok.ensures.right
-
-pub returns-in-Err : goal.returns-in-Err
-returns-in-Err c =
-    let d = c.args.self.now in
-    right_away
-    c.take_back.new.stones c.take_back.new.log c.take_back.new.parents c.take_back.new.borders
-    d.stones.items d.log.items d.parents.items d.borders.items d.stones.len d.log.len d.parents.len d.borders.len
-    (omega (arith, c.take_back.auto.stones, c.deref_mut.ensures.len)) (omega (arith, c.take_back.auto.log, c.deref_mut-2.ensures.len))
-    (omega (arith, c.take_back.auto.parents, c.deref_mut-3.ensures.len)) (omega (arith, c.take_back.auto.borders, c.deref_mut-4.ensures.len))
-    d.game _ (memory_of d) games.back c.in-Err.why (lent-now (goal.at.returns-in-Err c).After-deref_mut-4) c.in-Err.ensures
+    let game = c.in_ok-self.field-0 in
+    let kept = kept_in game _ (subst (Holds game) (left-now (goal.at.invariant_of-self-2 c).After-take_back) c.in_ok-self.ensures.holds) in
+    record {
+      room = subst (λ z. Roomy z.n d.scratch.len d.way.len) (sym c.in_ok-self.ensures.same_size) d.room;
+      fair = kept.0;
+      written = kept.1.0;
+      grouped = kept.1.1.0;
+    }

@@ -1,0 +1,48 @@
+// Draws the board of a desk, and says who has won.
+ghost use Rattle.std.specs.Prelude.{◌≡◌, ℕ, List, [], ◌++◌, string_bytes, OnOk};
+ghost use Rattle.wire.specs.Formal.{told};
+ghost use Rattle.hexboard.specs.Words.{words};
+ghost use Rattle.session.specs.Desks.{desk_game};
+ghost use Rattle.driver.specs.Drawn.{Drawn, Marked, shown_by};
+
+use session::Desk;
+use std::fmt;
+use std::fmt::Write;
+use text::{write_board, write_outcome};
+use wire::{Answer, Call};
+
+// Adds the rows of the board and the line that says who has won, each with its end.
+pub fn write_position(out: &mut String, desk: &Desk) -> fmt::Result
+    ensures { OnOk result (Drawn (desk_game desk.now) [] (string_bytes out.old) (string_bytes out.new)) }
+{
+    draw(out, desk, &[])
+}
+
+// Adds the same with the cells of a way marked, if somebody has connected.
+pub fn write_marked_position(out: &mut String, desk: &mut Desk) -> fmt::Result
+    ensures { OnOk result (Marked (desk_game desk.old) (desk_game desk.new) (string_bytes out.old) (string_bytes out.new)) }
+{
+    let reply = desk.serve(Call::Who);
+    let way = cells_of(reply.answer(desk.way()));
+    draw(out, desk, way)
+}
+
+// The bytes of the cells of an answer's way, if it has one.
+fn cells_of(answer: Answer<&[u8]>) -> &[u8]
+    ensures { words result.now ≡ shown_by (told answer.entry) }
+{
+    match answer {
+        Answer::Way(_, cells) => cells,
+        Answer::Refused(_) | Answer::Number(_) | Answer::Yes(_) | Answer::No | Answer::TooMany =>
+            &[],
+    }
+}
+
+// Adds the board with the cells of these bytes marked, two a cell, low byte first, and who has won.
+fn draw(out: &mut String, desk: &Desk, marked: &[u8]) -> fmt::Result
+    ensures { OnOk result (Drawn (desk_game desk.now) (words marked.now) (string_bytes out.old) (string_bytes out.new)) }
+{
+    write_board(out, desk.size(), desk.cells(), marked)?;
+    write_outcome(out, desk.winner())?;
+    out.write_str("\n")
+}

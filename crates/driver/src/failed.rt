@@ -1,0 +1,14 @@
+// Why a line could not be served.
+use std::fmt;
+use thiserror::Error;
+
+// There is no memory for the line that is to be written, or for the board.
+#[derive(Clone, Copy, Debug, Error)]
+#[error("there is no memory")]
+pub struct Failed;
+
+impl From<fmt::Error> for Failed {
+    fn from(_: fmt::Error) -> Self {
+        Failed
+    }
+}

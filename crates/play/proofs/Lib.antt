@@ -1,5 +1,0 @@
-pub mod Keeping
-pub mod Asking
-pub mod Showing
-pub mod Running
-pub mod Forcing

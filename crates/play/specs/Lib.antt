@@ -1,7 +1,0 @@
-pub mod Replies
-pub mod Serving
-pub mod Calling
-pub mod Lending
-pub mod Desks
-pub mod Runs
-pub mod Keeps

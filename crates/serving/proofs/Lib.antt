@@ -1,2 +1,0 @@
-mod Answering
-mod Outcomes

@@ -1,0 +1,36 @@
+-- How much memory a game asks for, and what opening answers.
+use Rattle.std.specs.Prelude.{◌≡◌, ℕ, ◌+◌, ◌*◌, ◌<◌, ◌≤◌, ◌⊎◌, nat_le}
+use Rattle.hexboard.specs.Board.{pick}
+use Rattle.hexboard.specs.Games as games
+use Rattle.wire.specs.declared.refusal.Refusal.{Refusal}
+use Rattle.wire.specs.declared.refusal.Refusal.TheVariants.{BadSize, SmallMemory}
+use Rattle.history.specs.Holds.{won_by, Memory, formal, Holds}
+use Rattle.history.specs.declared.game.Game.{Game}
+use Rattle.verdict.specs.Verdicts.{bytes_of_table}
+use Rattle.session.specs.Serving.{Room}
+
+-- The memory that a game on a board n wide asks for: six bytes for each cell, and the table of an end, which serves the search for a
+-- way as scratch, too.
+abbrev pub asked : ℕ → ℕ
+asked n = 6 * (n * n) + bytes_of_table n
+
+-- at most 24 bytes for each cell, and 4,194,304 more for boards of more than 9 cells, 16,384 more for smaller ones
+abbrev pub within : ℕ → ℕ
+within n = 24 * (n * n) + pick (nat_le (n * n) 9) 16384 4194304
+
+-- a game by value without moves, on a board n wide
+abbrev pub Fresh : ℕ → Game → Type 0
+Fresh n g = (g.size.n ≡ n) × (g.count ≡ 0) × (won_by g.winner ≡ 0)
+
+-- Memory m holds a new game n wide, and there is scratch for every call.
+pub record New (n : ℕ) (m : Memory) (scratch : ℕ) : Type 0 where
+  pub some : 0 < n
+  pub few : n ≤ 19
+  pub holds : (g : Game) → Fresh n g → Holds g m
+  pub new : (g : Game) → Fresh n g → formal g m ≡ games.new_game n
+  pub room : Room n scratch (2 * (n * n))
+
+-- The first of the checks that fails: n is out of range, or there are not so many bytes as are asked for.
+abbrev pub NotOpened : ℕ → ℕ → Refusal → Type 0
+NotOpened n bytes why =
+    ((why ≡ BadSize) × (0 < n → n ≤ 19 → ⊥)) ⊎ ((why ≡ SmallMemory) × (0 < n) × (n ≤ 19) × (bytes < asked n))

@@ -1,0 +1,102 @@
+// A game in memory that its caller lends: opening cuts the memory into parts once, and every call works on the parts.
+ghost use Rattle.std.specs.Prelude.{◌≡◌, ℕ, ◌+◌, ◌*◌, ◌<◌, ◌≤◌, length, MatchResult};
+ghost use Rattle.hexboard.specs.Games as games;
+ghost use Rattle.history.specs.Holds.{lent, formal, Holds};
+ghost use Rattle.session.specs.Serving.{Room};
+ghost use Rattle.session.specs.Calling.{Called};
+ghost use Rattle.session.specs.Lending.{asked, within, New, NotOpened};
+
+use crate::bytes::call_in;
+use hexboard::Size;
+use history::Game;
+use wire::Refusal;
+
+// The parts of the lent memory, one behind the other: a byte for each stone; two for each move; two for each cell's parent in its group,
+// and one for the borders of its group; and scratch for the searches.
+#[derive(Drop)]
+pub struct Parts<'a> {
+    pub stones: &'a mut [u8],
+    pub log: &'a mut [u8],
+    pub parents: &'a mut [u8],
+    pub borders: &'a mut [u8],
+    pub scratch: &'a mut [u8],
+}
+
+// Why a game was not opened, and the memory, which is as it was.
+#[derive(Drop)]
+pub struct Closed<'a> {
+    pub why: Refusal,
+    pub memory: &'a mut [u8],
+}
+
+// How many bytes a game on a board of this size asks for.
+pub fn memory_for(size: Size) -> usize
+    ensures value { result ≡ asked size.n }
+    ensures bound { result ≤ within size.n }
+{
+    6 * size.cells() as usize + verdict::table_bytes(size)
+}
+
+// A new game on a board n wide and n tall, n from 1 to 19, in memory that holds anything. The parts hold it, and `Game::new` gives it
+// by value.
+pub fn open(n: u16, memory: &mut [u8]) -> Result<Parts<'_>, Closed<'_>>
+    ensures { MatchResult result (λ p. New n (lent p.stones.now p.log.now p.parents.now p.borders.now) (length p.scratch.now)) (λ e. (e.memory.now ≡ memory.old) × NotOpened n (length memory.old) e.why) }
+{
+    let Some(size) = Size::new(n) else {
+        return Err(Closed {
+            why: Refusal::BadSize,
+            memory,
+        });
+    };
+    if memory.len() < memory_for(size) {
+        return Err(Closed {
+            why: Refusal::SmallMemory,
+            memory,
+        });
+    }
+    let cells = size.cells() as usize;
+    let (stones, rest) = memory.split_at_mut(cells);
+    let (log, rest) = rest.split_at_mut(2 * cells);
+    let (parents, rest) = rest.split_at_mut(2 * cells);
+    let (borders, scratch) = rest.split_at_mut(cells);
+    let _ = history::start(size, stones, log, parents, borders);
+    Ok(Parts {
+        stones,
+        log,
+        parents,
+        borders,
+        scratch,
+    })
+}
+
+// Takes a call by the rules or turns it away, and writes the answer's bytes to the front of `answer`: how many they are. None if
+// `answer` has no room for every answer, two bytes for each cell of the board and 8 more; then nothing changes.
+pub fn call<'a>(
+    game: Game,
+    parts: Parts<'a>,
+    bytes: &[u8],
+    answer: &mut [u8],
+) -> (Game, Parts<'a>, Option<usize>)
+    requires holds { Holds game (lent parts.stones.now parts.log.now parts.parents.now parts.borders.now) }
+    requires room { Room game.size.n (length parts.scratch.now) (2 * (game.size.n * game.size.n)) }
+    ensures called { Called game (lent parts.entry.stones.now parts.entry.log.now parts.entry.parents.now parts.entry.borders.now) parts.entry.scratch.now bytes.now answer.old result.0 (lent result.1.stones.now result.1.log.now result.1.parents.now result.1.borders.now) result.1.scratch.now answer.new result.2 }
+    ensures holds { Holds result.0 (lent result.1.stones.now result.1.log.now result.1.parents.now result.1.borders.now) }
+    ensures room { Room result.0.size.n (length result.1.scratch.now) (2 * (result.0.size.n * result.0.size.n)) }
+{
+    let Parts {
+        stones,
+        log,
+        parents,
+        borders,
+        scratch,
+    } = parts;
+    let (next, size) = call_in(game, stones, log, parents, borders, scratch, bytes, answer);
+    let parts = Parts {
+        stones,
+        log,
+        parents,
+        borders,
+        scratch,
+    };
+    (next, parts, size)
+}

@@ -1,0 +1,96 @@
+// A call on a game in lent memory: each is answered right by the rules for the games before and after it.
+ghost use Rattle.std.specs.Prelude.{◌≡◌, ℕ, ◌*◌, ◌≤◌, List, length, drop, ◌≢◌};
+ghost use Rattle.hexboard.specs.Games as games;
+ghost use Rattle.history.specs.Holds.{lent, formal, Holds};
+ghost use Rattle.verdict.specs.Verdicts.{bytes_of_table};
+ghost use Rattle.session.specs.Replies.{replied, way_cells};
+ghost use Rattle.session.specs.Serving.{Room, beside, Answered};
+ghost use Rattle.session.specs.Told.{told_who, found_cells};
+
+use crate::reply::Reply;
+use hexboard::Side;
+use history::Game;
+use links::Grouped;
+use verdict::Verdict;
+use wire::{Call, Refusal};
+
+// Serves a call. `scratch` holds anything, before and after; a way is written to the front of `way`.
+pub fn serve(
+    game: Game,
+    call: Call,
+    stones: &mut [u8],
+    log: &mut [u8],
+    parents: &mut [u8],
+    borders: &mut [u8],
+    scratch: &mut [u8],
+    way: &mut [u8],
+) -> (Game, Reply)
+    requires holds { Holds game (lent stones.old log.old parents.old borders.old) }
+    requires room { Room game.size.n (length scratch.old) (length way.old) }
+    ensures { Answered game (lent stones.old log.old parents.old borders.old) (beside scratch.old way.old) call result.0 (lent stones.new log.new parents.new borders.new) (beside scratch.new way.new) result.1 }
+{
+    match call {
+        Call::Move(cell) => {
+            let number = game.count();
+            match history::make_move(game, cell, stones, log, parents, borders) {
+                Ok(next) => (next, Reply::Number(number)),
+                Err(why) => (game, Reply::Refused(why)),
+            }
+        }
+        Call::Back => match history::take_back(game, stones, log, parents, borders) {
+            Ok(next) => (next, Reply::Number(next.count())),
+            Err(why) => (game, Reply::Refused(why)),
+        },
+        Call::Who => match who(game, stones, scratch, way) {
+            Some((side, cells)) => (game, Reply::Way(side, cells)),
+            None => (game, Reply::Number(0)),
+        },
+        Call::CanForce => (game, can_force(game, stones, parents, borders, scratch)),
+    }
+}
+
+// Who has connected, and how: the side, and how many cells the way has that is written to the front of `way`.
+pub fn who(game: Game, stones: &[u8], scratch: &mut [u8], way: &mut [u8]) -> Option<(Side, u16)>
+    requires room { Room game.size.n (length scratch.old) (length way.old) }
+    requires long { length stones.now ≡ game.size.n * game.size.n }
+    ensures right { (log parents borders : List ℕ) → Holds game (lent stones.now log parents borders) → games.Right (formal game (lent stones.now log parents borders)) games.who (told_who result way.new) (formal game (lent stones.now log parents borders)) }
+    ensures fits { found_cells result ≤ game.size.n * game.size.n }
+    ensures behind { drop (2 * found_cells result) way.new ≡ drop (2 * found_cells result) way.old }
+{
+    let side = game.winner()?;
+    let size = game.size();
+    let part = 2 * size.cells() as usize;
+    let (queue, rest) = scratch.split_at_mut(part);
+    let from = &mut rest[0..part];
+    let count = paths::find_way(size, side, stones, queue, from, way)?;
+    Some((side, count))
+}
+
+// Whether the side to move can bring it about that it connects, and by which move.
+fn can_force(game: Game, stones: &[u8], parents: &[u8], borders: &[u8], scratch: &mut [u8]) -> Reply
+    requires holds { (log : List ℕ) × Holds game (lent stones.now log parents.now borders.now) }
+    requires room { bytes_of_table game.size.n ≤ length scratch.old }
+    ensures right { (log way : List ℕ) → Holds game (lent stones.now log parents.now borders.now) → games.Right (formal game (lent stones.now log parents.now borders.now)) games.can_force (replied result way) (formal game (lent stones.now log parents.now borders.now)) }
+    ensures bare { way_cells result ≡ 0 }
+    ensures served { (why : Refusal) → result ≢ Reply.Refused why }
+{
+    let turn = game.turn();
+    if let Some(side) = game.winner() {
+        return if side == turn {
+            Reply::Yes(0)
+        } else {
+            Reply::No
+        };
+    }
+    let position = Grouped {
+        size: game.size(),
+        stones,
+        parents,
+        borders,
+    };
+    match verdict::can_force(&position, turn, scratch) {
+        Verdict::Yes(cell) => Reply::Yes(cell + 1),
+        Verdict::No => Reply::No,
+        Verdict::TooMany => Reply::TooMany,
+    }
+}

@@ -1,0 +1,204 @@
+// Games played at a desk and in lent memory: what is answered, what is refused first, and that a refusal changes nothing.
+use crate::{Closed, Desk, Parts, Reply, Unopened, call, memory_for, open};
+use hexboard::{Side, Size};
+use history::Game;
+use std::alloc::Global;
+use std::test::Fail;
+use wire::{Call, Refusal};
+
+// Fails the test unless this is so.
+fn check(holds: bool) -> Result<(), Fail> {
+    if holds {
+        Ok(())
+    } else {
+        Err(Fail::new("not as it should be"))
+    }
+}
+
+pub(crate) fn opened(heap: Global, n: u16) -> Result<Desk, Fail> {
+    let Ok(desk) = Desk::open(heap, n) else {
+        return Err(Fail::new("not opened"));
+    };
+    Ok(desk)
+}
+
+fn size_refused(heap: Global, n: u16) -> bool {
+    matches!(
+        Desk::open(heap, n),
+        Err(Unopened::Refused(Refusal::BadSize))
+    )
+}
+
+#[test]
+fn sizes_out_of_range(rt: HostRuntime) {
+    assert!(rt; size_refused(rt.alloc(), 0));
+    assert!(rt; size_refused(rt.alloc(), 20));
+}
+
+// Plays the cells in turn, from the first move of the game.
+fn play(desk: &mut Desk, cells: &[u16]) -> Result<(), Fail> {
+    for (number, cell) in (0u16..).zip(cells) {
+        check(desk.serve(Call::Move(*cell)) == Reply::Number(number))?;
+    }
+    Ok(())
+}
+
+#[test]
+fn each_side_can_win(rt: HostRuntime) -> Result<(), Fail> {
+    let mut desk = opened(rt.alloc(), 3)?;
+    play(&mut desk, &[4, 0, 8, 2, 6, 3, 5])?;
+    assert_eq!(rt; desk.serve(Call::Who), Reply::Number(0));
+    assert_eq!(rt; desk.serve(Call::CanForce), Reply::Yes(2));
+    assert_eq!(rt; desk.serve(Call::Move(1)), Reply::Number(7));
+    assert_eq!(rt; desk.serve(Call::Who), Reply::Way(Side::Two, 3));
+    assert_eq!(rt; desk.serve(Call::CanForce), Reply::No);
+    assert_eq!(rt; desk.serve(Call::Back), Reply::Number(7));
+    assert_eq!(rt; desk.serve(Call::Back), Reply::Number(6));
+    assert_eq!(rt; desk.serve(Call::Move(1)), Reply::Number(6));
+    assert_eq!(rt; desk.serve(Call::Who), Reply::Way(Side::One, 3));
+    Ok(())
+}
+
+// Whether a move is refused for this reason, with all that the desk keeps as it was.
+fn move_refused(desk: &mut Desk, cell: u16, why: Refusal) -> Result<(), Fail> {
+    let stones = desk.stones.clone()?;
+    let log = desk.log.clone()?;
+    let parents = desk.parents.clone()?;
+    let borders = desk.borders.clone()?;
+    let scratch = desk.scratch.clone()?;
+    let count = desk.game.count();
+    check(desk.serve(Call::Move(cell)) == Reply::Refused(why))?;
+    check(desk.stones.as_slice() == stones.as_slice())?;
+    check(desk.log.as_slice() == log.as_slice())?;
+    check(desk.parents.as_slice() == parents.as_slice())?;
+    check(desk.borders.as_slice() == borders.as_slice())?;
+    check(desk.scratch.as_slice() == scratch.as_slice())?;
+    check(desk.game.count() == count)?;
+    Ok(())
+}
+
+// On a finished game a cell that is not there comes before the end of the game, and that before a cell that is taken.
+#[test]
+fn the_first_reason_is_told(rt: HostRuntime) -> Result<(), Fail> {
+    let heap = rt.alloc();
+    let mut desk = opened(heap, 3)?;
+    assert_eq!(rt; desk.serve(Call::Back), Reply::Refused(Refusal::NoMove));
+    move_refused(&mut desk, 9, Refusal::NoCell)?;
+    play(&mut desk, &[4])?;
+    move_refused(&mut desk, 4, Refusal::Taken)?;
+    move_refused(&mut desk, 9, Refusal::NoCell)?;
+    let mut over = opened(heap, 3)?;
+    play(&mut over, &[4, 0, 1, 2, 6])?;
+    move_refused(&mut over, 3, Refusal::Over)?;
+    move_refused(&mut over, 4, Refusal::Over)?;
+    move_refused(&mut over, 9, Refusal::NoCell)
+}
+
+// A game of 14 moves on 7 by 7 that side 2 wins by its last, along the fourth row.
+static LONG: [u16; 14] = [0, 21, 1, 22, 2, 23, 3, 24, 4, 25, 5, 26, 6, 27];
+
+// Another on the same board that side 1 wins, down the first column.
+static OTHER: [u16; 13] = [0, 6, 7, 13, 14, 20, 21, 27, 28, 34, 35, 41, 42];
+
+// After every move but the last nobody has connected, and then this side has, by a way of seven cells.
+fn play_to_the_end(desk: &mut Desk, cells: &[u16], winner: Side) -> Result<(), Fail> {
+    let mut left = cells.len();
+    for cell in cells {
+        check(desk.serve(Call::Who) == Reply::Number(0))?;
+        check(matches!(desk.serve(Call::Move(*cell)), Reply::Number(_)))?;
+        left = left.saturating_sub(1);
+    }
+    check(left == 0)?;
+    check(desk.serve(Call::Who) == Reply::Way(winner, 7))?;
+    Ok(())
+}
+
+fn take_all_back(desk: &mut Desk, moves: u16) -> Result<(), Fail> {
+    for left in (0..moves).rev() {
+        check(desk.serve(Call::Back) == Reply::Number(left))?;
+        check(desk.serve(Call::Who) == Reply::Number(0))?;
+    }
+    check(desk.serve(Call::Back) == Reply::Refused(Refusal::NoMove))?;
+    Ok(())
+}
+
+// A whole game is taken back move by move, and played otherwise; every byte that is kept is what it was.
+#[test]
+fn a_game_back_to_the_start(rt: HostRuntime) -> Result<(), Fail> {
+    let mut desk = opened(rt.alloc(), 7)?;
+    let stones = desk.stones.clone()?;
+    let log = desk.log.clone()?;
+    let parents = desk.parents.clone()?;
+    let borders = desk.borders.clone()?;
+    play_to_the_end(&mut desk, &LONG, Side::Two)?;
+    take_all_back(&mut desk, 14)?;
+    assert_eq!(rt; desk.stones.as_slice(), stones.as_slice());
+    assert_eq!(rt; desk.log.as_slice(), log.as_slice());
+    assert_eq!(rt; desk.parents.as_slice(), parents.as_slice());
+    assert_eq!(rt; desk.borders.as_slice(), borders.as_slice());
+    play_to_the_end(&mut desk, &OTHER, Side::One)?;
+    Ok(())
+}
+
+// What opening in memory of so many bytes is refused for, with the memory as it was.
+fn closed(n: u16, memory: &mut [u8]) -> Result<Refusal, Fail> {
+    let Err(Closed { why, memory }) = open(n, memory) else {
+        return Err(Fail::new("opened"));
+    };
+    check(memory.iter().copied().min() == Some(7))?;
+    check(memory.iter().copied().max() == Some(7))?;
+    Ok(why)
+}
+
+#[test]
+fn memory_too_small(rt: HostRuntime) -> Result<(), Fail> {
+    let Some(size) = Size::new(3) else {
+        return Err(Fail::new("no board is 3 wide"));
+    };
+    assert_eq!(rt; memory_for(size), 1566);
+    let mut memory = [7; 1565];
+    assert_eq!(rt; closed(0, &mut memory)?, Refusal::BadSize);
+    assert_eq!(rt; closed(20, &mut memory)?, Refusal::BadSize);
+    assert_eq!(rt; closed(3, &mut memory)?, Refusal::SmallMemory);
+    Ok(())
+}
+
+// On a board of one cell, in lent memory and in bytes: a move wins; a call that cannot be read is refused as that, though the game is
+// over, and leaves the memory as it was; the way is written behind its head; and an answer too short for every answer serves no call.
+#[test]
+fn one_cell_in_bytes(rt: HostRuntime) -> Result<(), Fail> {
+    let heap = rt.alloc();
+    let Some(size) = Size::new(1) else {
+        return Err(Fail::new("no board is 1 wide"));
+    };
+    let mut memory = [7; 1518];
+    let mut answer = [9; 10];
+    let Ok(parts) = open(1, &mut memory) else {
+        return Err(Fail::new("not opened"));
+    };
+    let (game, parts, written) = call(Game::new(size), parts, &[0, 0, 0], &mut answer);
+    assert_eq!(rt; written, Some(3));
+    assert_eq!(rt; answer, [1, 0, 0, 9, 9, 9, 9, 9, 9, 9]);
+    let before = kept(heap, &parts)?;
+    let (game, parts, written) = call(game, parts, &[0, 0, 0, 0], &mut answer);
+    assert_eq!(rt; written, Some(5));
+    assert_eq!(rt; answer, [0, 1, 0, 3, 0, 9, 9, 9, 9, 9]);
+    assert_eq!(rt; kept(heap, &parts)?.as_slice(), before.as_slice());
+    let (game, parts, written) = call(game, parts, &[2], &mut answer);
+    assert_eq!(rt; written, Some(7));
+    assert_eq!(rt; answer, [2, 1, 0, 1, 0, 0, 0, 9, 9, 9]);
+    let (_game, parts, written) = call(game, parts, &[1], &mut answer[0..9]);
+    assert_eq!(rt; written, None);
+    assert_eq!(rt; kept(heap, &parts)?.as_slice(), before.as_slice());
+    Ok(())
+}
+
+// The bytes of the parts that keep the game.
+fn kept(heap: Global, parts: &Parts<'_>) -> Result<Vec<u8>, Fail> {
+    let mut bytes = Vec::new(heap);
+    bytes.extend_from_slice(parts.stones)?;
+    bytes.extend_from_slice(parts.log)?;
+    bytes.extend_from_slice(parts.parents)?;
+    bytes.extend_from_slice(parts.borders)?;
+    Ok(bytes)
+}
