@@ -1,6 +1,6 @@
 use Rattle.std.proofs.Common.{◌≡◌, ℕ, [], ◌++◌, vec_items, string_bytes, ap, ◌∙◌, inl, inr, arith}
 use Rattle.hexboard.specs.Games as games
-use Rattle.text.specs.Answers.{line_of}
+use Rattle.wire.specs.Answers.{line_of}
 use Rattle.session.specs.Desks.{desk_game}
 use Rattle.session.specs.Replies.{replied}
 use Rattle.session.specs.declared.reply.Reply.{Reply}

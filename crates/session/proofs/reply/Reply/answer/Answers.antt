@@ -1,7 +1,7 @@
 use Rattle.std.proofs.Common.{ℕ, List, sym, ap}
 use Rattle.hexboard.specs.Games as games
 use Rattle.hexboard.specs.Sides.{number}
-use Rattle.wire.specs.Numbers.{words}
+use Rattle.hexboard.specs.Words.{words}
 use Rattle.session.proofs.Asking.{front_of}
 use Rattle.session.proofs.reply.Reply.answer.Goals as goal
 
