@@ -11,7 +11,7 @@ use Rattle.driver.proofs.lines.serve.Goals.{then-is_beyond, else-is_beyond}
 
 pub returns : goal.returns
 returns c =
-    let line = c.in_ok-write_answer.ensures ∙ ap (λ (a : games.Answer). string_bytes c.args.out.now ++ line_of a) (c.answer.ensures ∙ ap (replied c.if-is_beyond.reply) c.way.ensures) in
+    let line = c.in_ok-write.ensures.bytes ∙ ap (λ (a : games.Answer). string_bytes c.args.out.now ++ line_of a) (c.answer-answer.ensures ∙ ap (replied c.if-is_beyond.reply) c.way.ensures) in
     elim c.if-is_beyond.branch [
       | then-is_beyond w ↦ inr (inl (
         c.is_beyond.ensures.0 w.if-is_beyond.true,
