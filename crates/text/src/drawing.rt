@@ -8,7 +8,8 @@ use std::fmt;
 use std::fmt::Write;
 
 // Adds the rows of the board, a line each, from the bytes of its cells, one a cell. The cells of the way, two bytes each, low byte
-// first, are marked; the way may be empty.
+// first, are marked; the way may be empty. This is no Display of a public type, since callers have the three apart and would only
+// build a value to write it.
 pub fn write_board(out: &mut String, size: Size, cells: &[u8], way: &[u8]) -> fmt::Result
     ensures { OnOk result (string_bytes out.new ≡ string_bytes out.old ++ board_lines size.n cells.now (words way.now)) }
 {
@@ -19,7 +20,7 @@ pub fn write_board(out: &mut String, size: Size, cells: &[u8], way: &[u8]) -> fm
     Ok(())
 }
 
-// Adds the line that says who has won, without its end.
+// Adds the line that says who has won, without its end. This is no Display, since a winner is an Option, a type of std's.
 pub fn write_outcome(out: &mut String, winner: Option<Side>) -> fmt::Result
     ensures { OnOk result (string_bytes out.new ≡ string_bytes out.old ++ outcome_line winner) }
 {
