@@ -38,11 +38,6 @@ pub made_more : {X Y : Type 0} {P Q : X → Type 0} (r : Result X Y) → ((x : X
 made_more (Ok x) f = f x
 made_more (Err y) f = λ _. tt
 
--- a right answer, told of another name for the desk and the reply
-pub right_again : (g : games.Game) (call : Call) (d e : Desk) (r s : Reply) → d ≡ e → r ≡ s →
-    games.Right g (asked call) (replied s (vec_items e.way)) (desk_game e) → games.Right g (asked call) (replied r (vec_items d.way)) (desk_game d)
-right_again g call d e r s same-desk same-reply right = rw (same-desk, same-reply) right
-
 -- the lines of some kinds, and that of one more
 pub lines_more : (f : Kind → List ℕ) (before now' after : List ℕ) (ks : List Kind) (i : ℕ) (k : Kind) → take (i + 1) ks ≡ take i ks ++ k ∷ [] →
     now' ≡ before ++ flat_map f (take i ks) → after ≡ now' ++ f k → after ≡ before ++ flat_map f (take (i + 1) ks)

@@ -3,11 +3,8 @@ use Rattle.history.specs.Holds.{lent}
 use Rattle.session.proofs.Asking.{stones_long, not_refused_number, not_refused_way}
 use Rattle.session.proofs.serve.serve.Goals as goal
 
-pub who-requires : goal.who-requires
-who-requires c = record {
-  room = c.requires.room;
-  long = stones_long c.args.game (lent c.args.stones.now c.args.log.now c.args.parents.now c.args.borders.now) c.requires.holds;
-}
+pub who-requires-clause-long : goal.who-requires-clause-long
+who-requires-clause-long c = stones_long c.args.game (lent c.args.stones.now c.args.log.now c.args.parents.now c.args.borders.now) c.requires.holds
 
 pub returns-in-Some : goal.returns-in-Some
 returns-in-Some c = record {
