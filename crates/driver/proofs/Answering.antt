@@ -9,7 +9,7 @@ use Rattle.session.specs.Replies.{replied}
 use Rattle.session.specs.declared.desk.Desk.{Desk}
 use Rattle.session.specs.declared.reply.Reply.{Reply}
 use Rattle.wire.specs.declared.call.Call.{Call}
-use Rattle.text.specs.Answers.{line_of}
+use Rattle.wire.specs.Answers.{line_of}
 use Rattle.text.specs.Lines.{Asks, Says}
 use Rattle.text.specs.declared.reading.Line.TheVariants as line
 use Rattle.driver.specs.Served.{Reopened, Called, Next, Told}

@@ -7,7 +7,7 @@ use Rattle.wire.specs.declared.call.Call.{Call}
 use Rattle.wire.specs.declared.call.Call.TheVariants.{Move, Back, Who, CanForce}
 use Rattle.session.specs.Desks.{desk_game}
 use Rattle.session.specs.declared.desk.Desk.{Desk}
-use Rattle.text.specs.Answers.{line_of}
+use Rattle.wire.specs.Answers.{line_of}
 use Rattle.text.specs.Lines.{Asks, Says, Readable}
 use Rattle.text.specs.Places.{Stops}
 use Rattle.text.specs.declared.reading.Line.TheVariants as line

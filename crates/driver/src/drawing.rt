@@ -1,7 +1,7 @@
 // Draws the board of a desk, and says who has won.
 ghost use Rattle.std.specs.Prelude.{◌≡◌, ℕ, List, [], ◌++◌, string_bytes, OnOk};
 ghost use Rattle.wire.specs.Formal.{told};
-ghost use Rattle.wire.specs.Numbers.{words};
+ghost use Rattle.hexboard.specs.Words.{words};
 ghost use Rattle.session.specs.Desks.{desk_game};
 ghost use Rattle.driver.specs.Drawn.{Drawn, Marked, shown_by};
 
@@ -28,7 +28,7 @@ pub fn write_marked_position(out: &mut String, desk: &mut Desk) -> fmt::Result
 }
 
 // The bytes of the cells of an answer's way, if it has one.
-fn cells_of(answer: Answer<'_>) -> &[u8]
+fn cells_of(answer: Answer<&[u8]>) -> &[u8]
     ensures { words result.now ≡ shown_by (told answer.entry) }
 {
     match answer {

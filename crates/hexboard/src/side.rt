@@ -1,5 +1,5 @@
 // The two sides of a game.
-ghost use Rattle.std.specs.Prelude.{◌≡◌, ℕ};
+ghost use Rattle.std.specs.Prelude.{◌≡◌, ℕ, ◌++◌, Some, codes, decimal};
 ghost use Rattle.hexboard.specs.Board.{other};
 ghost use Rattle.hexboard.specs.Sides.{number, by_number, side_numbered};
 
@@ -70,6 +70,8 @@ impl TryFrom<u8> for Side {
 }
 
 impl fmt::Display for NoSide {
+    ghost output = { λ e. Some (codes "no side has number " ++ decimal e.0) };
+
     fn fmt<W: fmt::Write>(&self, f: &mut fmt::Formatter<W>) -> fmt::Result {
         write!(f, "no side has number {}", self.0)
     }

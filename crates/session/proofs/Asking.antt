@@ -6,9 +6,8 @@ use Rattle.hexboard.specs.Board.{Connects}
 use Rattle.hexboard.specs.Geometry.{laid}
 use Rattle.hexboard.specs.Games as games
 use Rattle.hexboard.specs.Sides.{number}
-use Rattle.wire.specs.Numbers.{words}
+use Rattle.hexboard.specs.Words.{words}
 use Rattle.hexboard.specs.declared.side.Side.{Side}
-use Rattle.hexboard.specs.Words as board
 use Rattle.paths.specs.Ways.{Written}
 use Rattle.groups.proofs.Positions.{board_cells}
 use Rattle.history.specs.Holds.{won_by, Memory, moves_in, formal, Holds}
@@ -26,12 +25,6 @@ front_of bytes e k cut =
     (λ more. let z : length bytes ≡ e - 0 = omega arith in take_all k bytes more ∙ (sym (take_all (length bytes) bytes (omega arith)) ∙ ap (λ j. take j bytes) z))
     (order k (length bytes))
 
--- numbers of two bytes are the same for a way and for an answer
-same_words : (bytes : List ℕ) → board.words bytes ≡ words bytes
-same_words [] = refl
-same_words (low ∷ []) = refl
-same_words (low ∷ (high ∷ bytes)) = ap (λ (ws : List ℕ). (low + high * 256) ∷ ws) (same_words bytes)
-
 -- there is a stone's byte for each cell
 pub stones_long : (g : Game) (m : Memory) → Holds g m → length m.stones ≡ g.size.n * g.size.n
 stones_long g m h = ap length h.kept.stones_are ∙ board_cells g.size.n (moves_in g m) h.played.legal
@@ -41,8 +34,7 @@ pub right_found : (g : Game) (m : Memory) → Holds g m → (side : Side) → wo
     Written (laid g.size.n m.stones) (number side) old new k →
     games.Right (formal g m) games.who (games.way (number side) (words (take (2 * k) new))) (formal g m)
 right_found g m h side e old new k w =
-    subst (λ (ws : List ℕ). games.Right (formal g m) games.who (games.way (number side) ws) (formal g m)) (same_words (take (2 * k) new))
-    (right_way g m h (number side) _ (winner_connects g m h side e).1 w.shortest.way w.shortest.few)
+    right_way g m h (number side) _ (winner_connects g m h side e).1 w.shortest.way w.shortest.few
 
 -- no other reply is a refusal
 pub not_refused_number : (n : ℕ) (why : Refusal) → reply.Number n ≡ reply.Refused why → ⊥

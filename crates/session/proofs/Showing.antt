@@ -7,13 +7,14 @@ use Rattle.std.proofs.str.Laws.{order}
 use Rattle.hexboard.specs.Games as games
 use Rattle.hexboard.specs.Sides.{number}
 use Rattle.hexboard.specs.declared.side.Side.{Side}
-use Rattle.wire.specs.Numbers.{words}
+use Rattle.hexboard.specs.Words.{words}
 use Rattle.wire.specs.Bytes.{two, way_head, Written}
 use Rattle.wire.specs.Formal.{asked}
 use Rattle.wire.specs.Numbers.{reason}
 use Rattle.wire.specs.Reading.{read}
 use Rattle.wire.specs.declared.call.Call.{Call}
-use Rattle.wire.proofs.Words.{joined_words, length_joined, words_long}
+use Rattle.hexboard.proofs.TwoBytes.{words_length}
+use Rattle.wire.proofs.Words.{joined_words, length_joined}
 use Rattle.session.specs.Replies.{replied, way_cells, shown}
 use Rattle.session.specs.Calling.{Shown, Refuses, RightBytes}
 use Rattle.session.specs.declared.reply.Reply.{Reply}
@@ -38,7 +39,7 @@ module _ (side : Side) (count : ℕ) (old : List ℕ) (room : 5 + 2 * count ≤ 
 
   head_and_cells : ((i : ℕ) → get_or cells i 0 < 256) → shown (games.way (number side) (words cells)) ≡ way_head side count ++ cells
   head_and_cells small =
-      let many : length (words cells) ≡ count = omega (arith, words_long cells, cells_long) in
+      let many : length (words cells) ≡ count = omega (arith, words_length cells, cells_long) in
       let back = joined_words cells small (omega (arith, cells_long)) in
       ap (λ k. 2 ∷ (two (number side) ++ (two k ++ flat_map two (words cells)))) many ∙ ap (λ (xs : List ℕ). 2 ∷ (two (number side) ++ (two count ++ xs))) back
 
@@ -89,7 +90,7 @@ reply_long (reply.Refused why) bytes room = inl refl
 reply_long (reply.Number n) bytes room = inl refl
 reply_long (reply.Way side count) bytes room =
     let cells = take (2 * count) bytes in
-    inr (omega (arith, length_joined (words cells), words_long cells, length-take-le (2 * count) bytes room))
+    inr (omega (arith, length_joined (words cells), words_length cells, length-take-le (2 * count) bytes room))
 reply_long (reply.Yes next) bytes room = inl refl
 reply_long reply.No bytes room = inl refl
 reply_long reply.TooMany bytes room = inl refl

@@ -2,7 +2,7 @@
 use Rattle.std.specs.Prelude.{ℕ, ◌*◌, List, [], ◌∷◌, length, take}
 use Rattle.hexboard.specs.Games as games
 use Rattle.hexboard.specs.Sides.{number}
-use Rattle.wire.specs.Numbers.{words}
+use Rattle.hexboard.specs.Words.{words}
 use Rattle.wire.specs.Bytes.{in_bytes}
 use Rattle.wire.specs.Numbers.{Numbered, reason}
 use Rattle.session.specs.declared.reply.Reply.{Reply}

@@ -3,7 +3,8 @@ use Rattle.std.specs.Prelude.{ℕ, ◌*◌, List, take, Some, None, Ok, Err, Opt
 use Rattle.hexboard.specs.Games as games
 use Rattle.hexboard.specs.Sides.{number}
 use Rattle.hexboard.specs.declared.side.Side.{Side}
-use Rattle.wire.specs.Numbers.{reason, words}
+use Rattle.hexboard.specs.Words.{words}
+use Rattle.wire.specs.Numbers.{reason}
 use Rattle.wire.specs.declared.refusal.Refusal.{Refusal}
 
 -- the answer of the rules: a number, or a refusal with its number and place

@@ -22,7 +22,7 @@ pub enum Reply {
 
 impl Reply {
     // The answer, with the way that stands at the front of these bytes.
-    pub fn answer(self, way: &[u8]) -> Answer<'_>
+    pub fn answer(self, way: &[u8]) -> Answer<&[u8]>
         ensures { told result ≡ replied self way.now }
     {
         match self {
@@ -32,7 +32,7 @@ impl Reply {
                 let end = (2 * count as usize).min(way.len());
                 Answer::Way(side, &way[0..end])
             }
-            Reply::Yes(next) => Answer::Yes(next),
+            Reply::Yes(next) => Answer::Yes(next.checked_sub(1)),
             Reply::No => Answer::No,
             Reply::TooMany => Answer::TooMany,
         }

@@ -16,7 +16,7 @@ pub trait Sink {
     ghost heard: { Self → List games.Answer };
 
     // Takes one more answer.
-    fn hear(&mut self, answer: Answer<'_>)
+    fn hear(&mut self, answer: Answer<&[u8]>)
         ensures { heard self.new ≡ heard self.old ++ (told answer.entry ∷ []) };
 }
 

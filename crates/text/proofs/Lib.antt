@@ -4,5 +4,4 @@ mod Asked
 mod Columns
 mod Numbers
 mod Pairs
-mod Spelled
 mod Words

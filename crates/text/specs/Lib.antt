@@ -1,4 +1,3 @@
-pub mod Answers
 pub mod Boards
 pub mod Lines
 pub mod Places

@@ -1,6 +1,6 @@
 // Writes a board as text, and who has won.
 ghost use Rattle.std.specs.Prelude.{◌≡◌, ℕ, ◌<◌, Bool, List, ◌++◌, string_bytes, OnOk, slice_index};
-ghost use Rattle.wire.specs.Numbers.{words};
+ghost use Rattle.hexboard.specs.Words.{words};
 ghost use Rattle.text.specs.Boards.{mark, gap, among, spaces, row_cells, row_line, board_lines, outcome_line};
 
 use hexboard::{Side, Size};

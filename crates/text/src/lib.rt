@@ -82,12 +82,12 @@ mod tests {
     fn add_answers(text: &mut String) -> fmt::Result {
         add_answer(text, Answer::Refused(Refusal::Unreadable(9)))?;
         add_answer(text, Answer::Way(Side::Two, &[3, 0, 4, 1]))?;
-        add_answer(text, Answer::Yes(0))?;
-        add_answer(text, Answer::Yes(5))?;
+        add_answer(text, Answer::Yes(None))?;
+        add_answer(text, Answer::Yes(Some(4)))?;
         add_answer(text, Answer::TooMany)
     }
 
-    fn add_answer(text: &mut String, answer: Answer<'_>) -> fmt::Result {
+    fn add_answer(text: &mut String, answer: Answer<&[u8]>) -> fmt::Result {
         write_answer(text, answer)?;
         text.write_str("; ")
     }

@@ -1,29 +1,34 @@
 -- The cells of a way in their bytes: how many they are, and how they stand behind the head of an answer.
-use Rattle.std.proofs.Common.{◌≡◌, ℕ, ◌+◌, ◌-◌, ◌*◌, ◌/◌, ◌%◌, ◌<◌, ◌≤◌, List, ◌++◌, length, get_or, take, drop, IfSome, Some, None, Option, sym, refl, ap, ◌∙◌, ⊎_elim, arith, take-add, Bor}
+use Rattle.std.proofs.Common.{◌≡◌, ℕ, ◌+◌, ◌-◌, ◌*◌, ◌/◌, ◌%◌, ◌<◌, ◌≤◌, List, ◌++◌, length, get_or, take, drop, IfSome, MatchOption, Some, None, Option, Ok, Err, Result, sym, refl, ap, ◌∙◌, ⊎_elim, arith, take-add, Bor}
+use Rattle.std.specs.Result.{OkIff, result_ok}
 use borrow.Rule.Slice.PartMut.{put_mid}
 use Rattle.hexboard.specs.declared.side.Side.{Side}
 use Rattle.std.proofs.lemmas.List.{append_assoc, drop_at, drop-drop, get_or-drop, get_or_past, get_or-take, length-take, take_at}
 use Rattle.std.proofs.lemmas.Bool.{cases_lt}
 use Rattle.wire.specs.declared.answer.Answer.TheVariants.{Way}
-use Rattle.wire.specs.Numbers.{words, Row}
+use Rattle.hexboard.specs.Words.{words}
+use Rattle.hexboard.proofs.TwoBytes.{words_length}
+use Rattle.wire.specs.Numbers.{Row}
 use Rattle.wire.specs.Bytes.{answer_bytes, way_head, Written, Headed}
-use Rattle.wire.proofs.Words.{joined_words, length_joined, words_long}
+use Rattle.wire.proofs.Words.{joined_words, length_joined}
 
--- half as many cells as bytes
-pub row_count : (bs : List ℕ) (n : ℕ) → length bs % 2 ≡ 0 → n ≡ length bs / 2 → n < 65536 → Row bs × (n ≡ length (words bs))
-row_count bs n even is few = let l = words_long bs in (record { even = even; few = omega arith }, omega arith)
+-- half as many cells as bytes, if two bytes can count them
+pub row_count : {E : Type 0} (bs : List ℕ) (count : Result ℕ E) → length bs % 2 ≡ 0 → OkIff count (length bs / 2 < 65536) (length bs / 2) →
+    MatchOption (result_ok count) (Row bs → ⊥) (λ n. Row bs × (n ≡ length (words bs)))
+row_count bs (Ok n) even is = let l = words_length bs in (record { even = even; few = omega (arith, is.0) }, omega (arith, is.1))
+row_count bs (Err e) even is = λ row. let few = row.few in is (omega arith)
 
 -- the bytes of a way are its head and its cells
 pub way_bytes : (side : Side) (count : ℕ) (cells : Bor (List ℕ)) → ((i : ℕ) → get_or cells.now i 0 < 256) → length cells.now ≡ 2 * count → answer_bytes (Way side cells) ≡ way_head side count ++ cells.now
 way_bytes side count cells small long =
     let even : length cells.now % 2 ≡ 0 = omega arith in
-    let p : length (words cells.now) ≡ count = omega (arith, words_long cells.now) in
+    let p : length (words cells.now) ≡ count = omega (arith, words_length cells.now) in
     let q = joined_words cells.now small even in
     rw (p, q)
 
 -- so many bytes are these
 pub way_long : (side : Side) (cells : Bor (List ℕ)) → Row cells.now → length (answer_bytes (Way side cells)) ≡ 5 + length cells.now
-way_long side cells row = let e = row.even in omega (arith, words_long cells.now, length_joined (words cells.now))
+way_long side cells row = let e = row.even in omega (arith, words_length cells.now, length_joined (words cells.now))
 
 -- a part of bytes is bytes
 small_part : (bs : List ℕ) → ((i : ℕ) → get_or bs i 0 < 256) → (m n i : ℕ) → get_or (take n (drop m bs)) i 0 < 256
@@ -51,7 +56,7 @@ pub way_written : (side : Side) (count : ℕ) (cells : Bor (List ℕ)) (old mid 
 way_written side count cells old mid part small row is room None head copied = absurd (omega (arith, head.0))
 way_written side count cells old mid part small row is room (Some told) head copied =
     let e = row.even in
-    let l = words_long cells.now in
+    let l = words_length cells.now in
     let long = way_long side cells row in
     let bytes = way_bytes side count cells small (omega arith) in
     let k = 5 + length cells.now - 5 in

@@ -2,9 +2,9 @@
 use Rattle.std.proofs.Common.{◌≡◌, ℕ, ◌+◌, ◌*◌, ◌≤◌, cond, eqb, [], ◌∷◌, length, get_or, drop, Some, None, Option, sym, refl, ap, ◌∙◌, arith}
 use Rattle.std.specs.List.{flat_map}
 use Rattle.hexboard.specs.Games as games
-use Rattle.wire.specs.declared.answer.Answer.{Answer}
+use Rattle.hexboard.specs.Words.{words}
 use Rattle.wire.specs.declared.answer.Answer.TheVariants.{Refused, Number, Way, Yes, No, TooMany}
-use Rattle.wire.specs.Numbers.{Numbered, answer_numbers, words}
+use Rattle.wire.specs.Numbers.{Numbered, InBytes, answer_numbers}
 use Rattle.wire.specs.Bytes.{two, in_bytes, answer_bytes}
 use Rattle.wire.specs.Reading.{Understood}
 use Rattle.wire.specs.Formal.{told, way_length}
@@ -17,7 +17,7 @@ telling n =
     cond (eqb n.number 0) (games.refused (get_or v 0 0) (get_or v 1 0)) (cond (eqb n.number 1) (games.number (get_or v 0 0)) (cond (eqb n.number 2) (games.way (get_or v 0 0) (drop 2 v))
     (cond (eqb n.number 3) (games.yes (get_or v 0 0)) (cond (eqb n.number 4) games.no games.too_many))))
 
-tells_numbers : (a : Answer) → telling (answer_numbers a) ≡ told a
+tells_numbers : (a : InBytes) → telling (answer_numbers a) ≡ told a
 unfolding telling
 tells_numbers (Refused why) = refl
 tells_numbers (Number n) = refl
@@ -35,7 +35,7 @@ numbers_of (games.yes next) = record { number = 3; values = next ∷ [] }
 numbers_of games.no = record { number = 4; values = [] }
 numbers_of games.too_many = record { number = 5; values = [] }
 
-numbers_told : (a : Answer) → numbers_of (told a) ≡ answer_numbers a
+numbers_told : (a : InBytes) → numbers_of (told a) ≡ answer_numbers a
 unfolding numbers_of
 numbers_told (Refused why) = refl
 numbers_told (Number n) = refl
@@ -52,19 +52,19 @@ same_numbers m n e =
     let r = sym (words_joined m.values) ∙ ap words q ∙ words_joined n.values in
     λ i. record { number = p i; values = r i }
 
-pub same_told : (a b : Answer) → answer_bytes a ≡ answer_bytes b → told a ≡ told b
+pub same_told : (a b : InBytes) → answer_bytes a ≡ answer_bytes b → told a ≡ told b
 same_told a b e = sym (tells_numbers a) ∙ ap telling (same_numbers (answer_numbers a) (answer_numbers b) e) ∙ tells_numbers b
 
-pub same_bytes : (a b : Answer) → told a ≡ told b → answer_bytes a ≡ answer_bytes b
+pub same_bytes : (a b : InBytes) → told a ≡ told b → answer_bytes a ≡ answer_bytes b
 same_bytes a b e = ap in_bytes (sym (numbers_told a) ∙ ap numbers_of e ∙ numbers_told b)
 
 -- what is understood of an answer's bytes is that answer
-pub understood : (a : Answer) (r : Option Answer) → Understood (answer_bytes a) r → (b : Answer) × (r ≡ Some b) × (told b ≡ told a)
+pub understood : (a : InBytes) (r : Option InBytes) → Understood (answer_bytes a) r → (b : InBytes) × (r ≡ Some b) × (told b ≡ told a)
 understood a None h = absurd (h a refl)
 understood a (Some b) h = (b, refl, same_told b a h.1)
 
 -- an answer takes at most five bytes, and two for each cell of a way
-pub room : (a : Answer) (cells : ℕ) → way_length (told a) ≤ cells → length (answer_bytes a) ≤ 2 * cells + 8
+pub room : (a : InBytes) (cells : ℕ) → way_length (told a) ≤ cells → length (answer_bytes a) ≤ 2 * cells + 8
 room (Refused why) cells few = omega arith
 room (Number n) cells few = omega arith
 room (Way side row) cells few = omega (arith, length_joined (words row.now))

@@ -1,8 +1,8 @@
 -- Numbers in two bytes, low byte first: what is written is read again, and what is read is written again.
-use Rattle.std.proofs.Common.{◌≡◌, ℕ, zero, suc, ◌+◌, ◌*◌, ◌/◌, ◌%◌, ◌<◌, List, [], ◌∷◌, ◌++◌, length, get_or, refl, ap, ◌∙◌, arith}
+use Rattle.std.proofs.Common.{◌≡◌, ℕ, suc, ◌+◌, ◌*◌, ◌/◌, ◌%◌, ◌<◌, List, [], ◌∷◌, ◌++◌, length, get_or, refl, ap, ◌∙◌, arith}
 use Rattle.std.specs.List.{flat_map}
 use Rattle.wire.specs.Bytes.{two}
-use Rattle.wire.specs.Numbers.{words}
+use Rattle.hexboard.specs.Words.{words}
 
 -- the bytes of the number that two bytes give are these bytes
 pub two_given : (low high : ℕ) → low < 256 → two (low + high * 256) ≡ low ∷ (high ∷ [])
@@ -36,19 +36,3 @@ joined_words [] small even = refl
 joined_words (low ∷ []) small even = absurd (omega arith)
 joined_words (low ∷ (high ∷ bs)) small even =
     ap (λ t. t ++ flat_map two (words bs)) (two_given low high (small 0)) ∙ ap (λ t. low ∷ (high ∷ t)) (joined_words bs (λ i. small (suc (suc i))) (omega arith))
-
--- half as many numbers as bytes
-pub words_long : (bs : List ℕ) → length (words bs) ≡ length bs / 2
-words_long [] = refl
-words_long (low ∷ []) = omega arith
-words_long (low ∷ (high ∷ bs)) = let r = words_long bs in omega arith
-
--- a number by its place
-pub word_at : (bs : List ℕ) (k : ℕ) → k < length bs / 2 → get_or (words bs) k 0 ≡ get_or bs (2 * k) 0 + get_or bs (2 * k + 1) 0 * 256
-word_at [] k h = absurd (omega arith)
-word_at (low ∷ []) k h = absurd (omega arith)
-word_at (low ∷ (high ∷ bs)) zero h = refl
-word_at (low ∷ (high ∷ bs)) (suc k) h =
-    let e : 2 * suc k ≡ suc (suc (2 * k)) = omega arith in
-    let f : 2 * suc k + 1 ≡ suc (suc (2 * k + 1)) = omega arith in
-    rw (f, e) (word_at bs k (omega arith))

@@ -3,12 +3,11 @@ use Rattle.std.specs.Prelude.{◌≡◌, ℕ, ◌+◌, ◌*◌, ◌/◌, ◌%◌
 use Rattle.std.specs.Borrow.{Bor}
 use Rattle.std.specs.List.{flat_map}
 use Rattle.hexboard.specs.declared.side.Side.{Side}
-use Rattle.wire.specs.declared.answer.Answer.{Answer}
 use Rattle.wire.specs.declared.answer.Answer.TheVariants.{Way}
 use Rattle.wire.specs.declared.answer.Unwritten.{Unwritten}
 use Rattle.wire.specs.declared.answer.Unwritten.TheVariants.{Short, NotCells}
 use Rattle.wire.specs.declared.call.Call.{Call}
-use Rattle.wire.specs.Numbers.{Numbered, call_numbers, way_numbers, answer_numbers, Sound}
+use Rattle.wire.specs.Numbers.{Numbered, call_numbers, way_numbers, InBytes, answer_numbers, Sound}
 
 -- a number in two bytes, low byte first; the high one is a byte for every number below 65,536
 abbrev pub two : ℕ → List ℕ
@@ -21,7 +20,7 @@ in_bytes c = c.number ∷ flat_map two c.values
 abbrev pub call_bytes : Call → List ℕ
 call_bytes c = in_bytes (call_numbers c)
 
-abbrev pub answer_bytes : Answer → List ℕ
+abbrev pub answer_bytes : InBytes → List ℕ
 answer_bytes a = in_bytes (answer_numbers a)
 
 -- the head of a way, which its cells follow
@@ -35,7 +34,7 @@ Written bs old new (Some size) = (size ≡ length bs) × (length bs ≤ length o
 Written bs old new None = (length old < length bs) × (new ≡ old)
 
 -- the same of an answer, unless it has no bytes
-abbrev pub Wrote : Answer → List ℕ → List ℕ → Result ℕ Unwritten → Type 0
+abbrev pub Wrote : InBytes → List ℕ → List ℕ → Result ℕ Unwritten → Type 0
 Wrote a old new (Ok size) = Sound a × Written (answer_bytes a) old new (Some size)
 Wrote a old new (Err Short) = Sound a × Written (answer_bytes a) old new None
 Wrote a old new (Err NotCells) = (Sound a → ⊥) × (new ≡ old)

@@ -2,11 +2,11 @@
 use Rattle.std.specs.Prelude.{ℕ, length}
 use Rattle.hexboard.specs.Games as games
 use Rattle.hexboard.specs.Sides as sides
-use Rattle.wire.specs.declared.answer.Answer.{Answer}
+use Rattle.hexboard.specs.Words.{words}
 use Rattle.wire.specs.declared.answer.Answer.TheVariants.{Refused, Number, Way, Yes, No, TooMany}
 use Rattle.wire.specs.declared.call.Call.{Call}
 use Rattle.wire.specs.declared.call.Call.TheVariants.{Move, Back, Who, CanForce}
-use Rattle.wire.specs.Numbers.{reason, words}
+use Rattle.wire.specs.Numbers.{reason, next_of, InBytes}
 
 -- the call of the game that a call is
 abbrev pub asked : Call → games.Call
@@ -16,11 +16,11 @@ asked Who = games.who
 asked CanForce = games.can_force
 
 -- the answer of the game that an answer is
-abbrev pub told : Answer → games.Answer
+abbrev pub told : InBytes → games.Answer
 told (Refused why) = games.refused (reason why).number (reason why).place
 told (Number n) = games.number n
 told (Way side cells) = games.way (sides.number side) (words cells.now)
-told (Yes next) = games.yes next
+told (Yes cell) = games.yes (next_of cell)
 told No = games.no
 told TooMany = games.too_many
 

@@ -1,9 +1,9 @@
 -- Laws of calls, answers and their bytes, each a statement. A function's contract asks for each.
 use Rattle.std.specs.Prelude.{◌≡◌, ℕ, ◌+◌, ◌*◌, ◌%◌, ◌<◌, ◌≤◌, List, length, Some, Ok, Option, slice_index}
 use Rattle.std.specs.List.{flat_map}
-use Rattle.wire.specs.declared.answer.Answer.{Answer}
 use Rattle.wire.specs.declared.call.Call.{Call}
-use Rattle.wire.specs.Numbers.{words}
+use Rattle.hexboard.specs.Words.{words}
+use Rattle.wire.specs.Numbers.{InBytes}
 use Rattle.wire.specs.Bytes.{two, call_bytes, answer_bytes}
 use Rattle.wire.specs.Reading.{read, Understood}
 use Rattle.wire.specs.Formal.{told, way_length}
@@ -18,15 +18,15 @@ OneCall = (c d : Call) → call_bytes c ≡ call_bytes d → c ≡ d
 
 -- What is understood of an answer's bytes is that answer.
 unfoldable pub AnswerComesBack : Type 0
-AnswerComesBack = (a : Answer) (r : Option Answer) → Understood (answer_bytes a) r → (b : Answer) × (r ≡ Some b) × (told b ≡ told a)
+AnswerComesBack = (a : InBytes) (r : Option InBytes) → Understood (answer_bytes a) r → (b : InBytes) × (r ≡ Some b) × (told b ≡ told a)
 
 -- Two answers have the same bytes exactly if they tell the same.
 unfoldable pub OneAnswer : Type 0
-OneAnswer = (a b : Answer) → (answer_bytes a ≡ answer_bytes b → told a ≡ told b) × (told a ≡ told b → answer_bytes a ≡ answer_bytes b)
+OneAnswer = (a b : InBytes) → (answer_bytes a ≡ answer_bytes b → told a ≡ told b) × (told a ≡ told b → answer_bytes a ≡ answer_bytes b)
 
 -- Two bytes for each cell of a board and 8 more have room for every answer, if a way has no more cells than the board.
 unfoldable pub RoomEnough : Type 0
-RoomEnough = (a : Answer) (cells : ℕ) → way_length (told a) ≤ cells → length (answer_bytes a) ≤ 2 * cells + 8
+RoomEnough = (a : InBytes) (cells : ℕ) → way_length (told a) ≤ cells → length (answer_bytes a) ≤ 2 * cells + 8
 
 -- Cells that are written in two bytes each are read again, and the bytes that cells are read from are those that they are written in.
 unfoldable pub CellsComeBack : Type 0

@@ -1,3 +1,4 @@
+pub mod Answers
 pub mod Numbers
 pub mod Bytes
 pub mod Reading

@@ -1,11 +1,14 @@
 -- The numbers of calls, answers and refusals, and the values that each case holds. Every promise takes them from here.
-use Rattle.std.specs.Prelude.{◌≡◌, ℕ, ◌+◌, ◌*◌, ◌%◌, ◌^◌, ◌<◌, List, [], ◌∷◌, length}
+use Rattle.std.specs.Prelude.{◌≡◌, ℕ, ◌+◌, ◌%◌, ◌^◌, ◌<◌, List, [], ◌∷◌, length, Some, None, Option, Result, MatchResult, ◌≢◌}
+use Rattle.std.specs.Borrow.{Bor}
 use Rattle.hexboard.specs.Sides as sides
+use Rattle.hexboard.specs.Words.{words}
 use Rattle.hexboard.specs.declared.side.Side.{Side}
 use Rattle.wire.specs.declared.answer.Answer.{Answer}
 use Rattle.wire.specs.declared.answer.Answer.TheVariants.{Refused, Number, Way, Yes, No, TooMany}
 use Rattle.wire.specs.declared.call.Call.{Call}
 use Rattle.wire.specs.declared.call.Call.TheVariants.{Move, Back, Who, CanForce}
+use Rattle.wire.specs.declared.refusal.NoRefusal.{NoRefusal}
 use Rattle.wire.specs.declared.refusal.Refusal.{Refusal}
 use Rattle.wire.specs.declared.refusal.Refusal.TheVariants.{Unreadable, NoCell, BadSize, SmallMemory, Over, Taken, NoMove}
 
@@ -28,6 +31,12 @@ reason Over = record { number = 4; place = 0 }
 reason Taken = record { number = 5; place = 0 }
 reason NoMove = record { number = 6; place = 0 }
 
+-- the refusal of a number and a place, or an error that carries them
+abbrev pub ByReason : ℕ × ℕ → Result Refusal NoRefusal → Type 0
+ByReason p r =
+    MatchResult r (λ x. ((reason x).number ≡ p.0) × ((reason x).place ≡ p.1))
+    (λ e. (e.number ≡ p.0) × (e.place ≡ p.1) × ((x : Refusal) → (reason x).number ≡ p.0 → (reason x).place ≢ p.1))
+
 -- a move holds its cell
 abbrev pub call_numbers : Call → Numbered
 call_numbers (Move cell) = record { number = 0; values = cell ∷ [] }
@@ -35,22 +44,25 @@ call_numbers Back = record { number = 1; values = [] }
 call_numbers Who = record { number = 2; values = [] }
 call_numbers CanForce = record { number = 3; values = [] }
 
--- The numbers that bytes give, two by two, low byte first. A byte that is left over gives none.
-abbrev pub words : List ℕ → List ℕ
-words [] = []
-words (low ∷ []) = []
-words (low ∷ (high ∷ bs)) = (low + high * 256) ∷ words bs
-
 -- a way of a side: how many cells, and the cells
 abbrev pub way_numbers : Side → ℕ → List ℕ → Numbered
 way_numbers side count ws = record { number = 2; values = sides.number side ∷ (count ∷ ws) }
 
+-- one more than a cell; 0 for none
+abbrev pub next_of : Option ℕ → ℕ
+next_of None = 0
+next_of (Some cell) = cell + 1
+
+-- an answer whose cells of a way are bytes, two a cell
+abbrev pub InBytes : Type 0
+InBytes = Answer (Bor (List ℕ))
+
 -- the cells of a way are those that its bytes give
-abbrev pub answer_numbers : Answer → Numbered
+abbrev pub answer_numbers : InBytes → Numbered
 answer_numbers (Refused why) = record { number = 0; values = (reason why).number ∷ ((reason why).place ∷ []) }
 answer_numbers (Number n) = record { number = 1; values = n ∷ [] }
 answer_numbers (Way side cells) = way_numbers side (length (words cells.now)) (words cells.now)
-answer_numbers (Yes next) = record { number = 3; values = next ∷ [] }
+answer_numbers (Yes cell) = record { number = 3; values = next_of cell ∷ [] }
 answer_numbers No = record { number = 4; values = [] }
 answer_numbers TooMany = record { number = 5; values = [] }
 
@@ -59,11 +71,11 @@ pub record Row (bs : List ℕ) : Type 0 where
   pub even : length bs % 2 ≡ 0
   pub few : length bs < 2 ^ 17
 
--- an answer that has bytes: if it is a way, its bytes are a row of cells
-abbrev pub Sound : Answer → Type 0
+-- an answer that has bytes: if it is a way, its bytes are a row of cells, and one more than the cell of a yes is a number of two bytes
+abbrev pub Sound : InBytes → Type 0
 Sound (Refused why) = Unit {0}
 Sound (Number n) = Unit {0}
 Sound (Way side cells) = Row cells.now
-Sound (Yes next) = Unit {0}
+Sound (Yes cell) = next_of cell < 2 ^ 16
 Sound No = Unit {0}
 Sound TooMany = Unit {0}

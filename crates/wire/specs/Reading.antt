@@ -1,11 +1,10 @@
 -- What a row of bytes is: a call, or where it ceases to be one; an answer, or none.
 use Rattle.std.specs.Prelude.{◌≡◌, ℕ, ◌+◌, ◌*◌, ◌<◌, ◌≤◌, cond, List, [], ◌∷◌, ◌++◌, length, take, Some, None, Ok, Err, Option, Result, ◌==◌, ◌≢◌}
-use Rattle.wire.specs.declared.answer.Answer.{Answer}
 use Rattle.wire.specs.declared.call.Call.{Call}
 use Rattle.wire.specs.declared.call.Call.TheVariants.{Move, Back, Who, CanForce}
 use Rattle.wire.specs.declared.refusal.Refusal.{Refusal}
 use Rattle.wire.specs.declared.refusal.Refusal.TheVariants.{Unreadable}
-use Rattle.wire.specs.Numbers.{Sound}
+use Rattle.wire.specs.Numbers.{InBytes, Sound}
 use Rattle.wire.specs.Bytes.{call_bytes, answer_bytes}
 
 -- after the number of a move: its cell, and nothing more
@@ -43,6 +42,6 @@ Reads bs (Ok c) = call_bytes c ≡ bs
 Reads bs (Err why) = (p : ℕ) × (why ≡ Unreadable p) × Ceases bs p
 
 -- an answer is read exactly if the bytes are those of one
-abbrev pub Understood : List ℕ → Option Answer → Type 0
+abbrev pub Understood : List ℕ → Option InBytes → Type 0
 Understood bs (Some a) = Sound a × (answer_bytes a ≡ bs)
-Understood bs None = (a : Answer) → answer_bytes a ≢ bs
+Understood bs None = (a : InBytes) → answer_bytes a ≢ bs

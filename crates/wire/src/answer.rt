@@ -1,24 +1,30 @@
 // What the desk answers, as values and as bytes.
-ghost use Rattle.std.specs.Prelude.{◌≡◌, ℕ, ◌<◌, ◌≤◌, ◌∷◌, ◌++◌, length, MatchOption, OnSome, ◌≢◌, slice_index};
-ghost use Rattle.hexboard.specs.Sides as sides;
+ghost use Rattle.std.specs.Prelude.{◌≡◌, ℕ, ◌<◌, ◌≤◌, ◌∷◌, ◌++◌, length, Some, MatchOption, OnSome, slice_index};
+ghost use Rattle.std.specs.List.{flat_map};
+ghost use Rattle.hexboard.specs.Words.{words};
 ghost use Rattle.wire.specs.Bytes.{two, way_head, Written, Wrote, Headed};
-ghost use Rattle.wire.specs.Numbers.{words, Row};
+ghost use Rattle.wire.specs.Formal.{told};
+ghost use Rattle.wire.specs.Answers.{line_of, spaced};
+ghost use Rattle.wire.specs.Numbers as numbers;
+ghost use Rattle.wire.specs.Numbers.{Row};
 ghost use Rattle.wire.specs.declared.answer.Answer.TheVariants.{Way};
 ghost use Rattle.wire.specs.Reading.{Understood};
 
 use crate::front::put;
 use crate::refusal::Refusal;
 use hexboard::Side;
+use std::fmt;
 
-// The cells of a way are bytes, two a cell, low byte first: a part of the bytes that the answer is written into or read from.
-#[derive(Clone, Copy)]
-pub enum Answer<'a> {
+// `W` is how the cells of a way are held. Where an answer is bytes, or is made of them, they are `&[u8]`, two bytes a cell, low byte
+// first: a part of the bytes that the answer is written into or read from.
+#[derive(Clone, Copy, PartialEq, Eq, Debug)]
+pub enum Answer<W> {
     Refused(Refusal),
     // Of a move, or how many moves are left; 0 if nobody has won.
     Number(u16),
-    Way(Side, &'a [u8]),
-    // One more than a cell for a move that does it, or 0 if the side to move has connected.
-    Yes(u16),
+    Way(Side, W),
+    // A cell for a move that does it, or none if the side to move has connected.
+    Yes(Option<u16>),
     No,
     TooMany,
 }
@@ -28,12 +34,13 @@ pub enum Answer<'a> {
 pub enum Unwritten {
     // There is no room for it.
     Short,
-    // The bytes of a way are no cells: they are odd in number, or more than two bytes can count.
+    // The bytes of a way are no cells: they are odd in number, or more than two bytes can count. Or one more than the cell of a yes
+    // is more than two bytes can hold.
     NotCells,
 }
 
 // The answer's bytes at the front, and how many they are.
-pub fn write_answer(answer: Answer, out: &mut [u8]) -> Result<usize, Unwritten>
+pub fn write_answer(answer: Answer<&[u8]>, out: &mut [u8]) -> Result<usize, Unwritten>
     ensures { Wrote answer.entry out.old out.new result }
 {
     match answer {
@@ -47,8 +54,8 @@ pub fn write_answer(answer: Answer, out: &mut [u8]) -> Result<usize, Unwritten>
             put(&[1, low, high], out).ok_or(Unwritten::Short)
         }
         Answer::Way(side, cells) => write_way(side, cells, out),
-        Answer::Yes(next) => {
-            let [low, high] = next.to_le_bytes();
+        Answer::Yes(cell) => {
+            let [low, high] = next_of(cell).ok_or(Unwritten::NotCells)?.to_le_bytes();
             put(&[3, low, high], out).ok_or(Unwritten::Short)
         }
         Answer::No => put(&[4], out).ok_or(Unwritten::Short),
@@ -56,12 +63,17 @@ pub fn write_answer(answer: Answer, out: &mut [u8]) -> Result<usize, Unwritten>
     }
 }
 
+// One more than a cell, or 0 for none, where that is a number of two bytes.
+fn next_of(cell: Option<u16>) -> Option<u16>
+    ensures { MatchOption result (65535 < numbers.next_of cell) (λ n. n ≡ numbers.next_of cell) }
+{
+    cell.map_or(Some(0), |cell| cell.checked_add(1))
+}
+
 fn write_way(side: Side, cells: &[u8], out: &mut [u8]) -> Result<usize, Unwritten>
     ensures { Wrote (Way side cells.entry) out.old out.new result }
 {
-    let Some(count) = count_cells(cells) else {
-        return Err(Unwritten::NotCells);
-    };
+    let count = count_cells(cells).ok_or(Unwritten::NotCells)?;
     let size = 5 + cells.len();
     if out.len() < size {
         return Err(Unwritten::Short);
@@ -76,7 +88,7 @@ pub fn write_way_head(side: Side, count: u16, out: &mut [u8]) -> Option<usize>
     ensures head { Written (way_head side count) out.old out.new result }
     ensures whole { OnSome result (Headed side count out.new) }
 {
-    let [a, b] = u16::from(side.number()).to_le_bytes();
+    let [a, b] = u16::from(u8::from(side)).to_le_bytes();
     let [c, d] = count.to_le_bytes();
     put(&[2, a, b, c, d], out)
 }
@@ -88,24 +100,21 @@ pub fn count_cells(cells: &[u8]) -> Option<u16>
     if cells.len() % 2 != 0 {
         return None;
     }
-    let Ok(count) = u16::try_from(cells.len() / 2) else {
-        return None;
-    };
-    Some(count)
+    u16::try_from(cells.len() / 2).ok()
 }
 
-// The k-th cell of the bytes of a way, where there is one.
+// The k-th cell of the bytes of a way, where there is one. `k` is any number, and so this is not `hexboard::word`, whose places are
+// themselves numbers of two bytes.
 pub fn cell_at(cells: &[u8], k: usize) -> Option<u16>
     ensures { MatchOption result (length (words cells.now) ≤ k) (λ cell. (k < length (words cells.now)) × (cell ≡ slice_index (words cells.now) k)) }
 {
-    if k >= cells.len() / 2 {
-        return None;
-    }
-    Some(u16::from_le_bytes([cells[2 * k], cells[2 * k + 1]]))
+    let (pairs, _) = cells.as_chunks::<2>();
+    let pair = pairs.get(k)?;
+    Some(u16::from_le_bytes(*pair))
 }
 
 // The answer that the bytes are, where they are one. A way is handed on as the part of the bytes that its cells are.
-pub fn read_answer(bytes: &[u8]) -> Option<Answer<'_>>
+pub fn read_answer(bytes: &[u8]) -> Option<Answer<&[u8]>>
     ensures { Understood bytes.now result }
 {
     match bytes {
@@ -116,40 +125,59 @@ pub fn read_answer(bytes: &[u8]) -> Option<Answer<'_>>
             u16::from_le_bytes([*c, *d]),
             cells,
         ),
-        [3, a, b] => Some(Answer::Yes(u16::from_le_bytes([*a, *b]))),
+        [3, a, b] => Some(Answer::Yes(u16::from_le_bytes([*a, *b]).checked_sub(1))),
         [4] => Some(Answer::No),
         [5] => Some(Answer::TooMany),
         _ => None,
     }
 }
 
-fn read_refused<'a>(number: u16, place: u16) -> Option<Answer<'a>>
+fn read_refused<'a>(number: u16, place: u16) -> Option<Answer<&'a [u8]>>
     ensures { Understood (0 ∷ (two number ++ two place)) result }
 {
-    let Some(why) = Refusal::of(number, place) else {
-        return None;
-    };
+    let why = Refusal::try_from((number, place)).ok()?;
     Some(Answer::Refused(why))
 }
 
-fn read_way(side: u16, count: u16, cells: &[u8]) -> Option<Answer<'_>>
+fn read_way(side: u16, count: u16, cells: &[u8]) -> Option<Answer<&[u8]>>
     ensures { Understood (2 ∷ (two side ++ (two count ++ cells.now))) result }
 {
-    let Some(side) = side_of(side) else {
-        return None;
-    };
+    let side = Side::try_from(u8::try_from(side).ok()?).ok()?;
     if cells.len() != 2 * usize::from(count) {
         return None;
     }
     Some(Answer::Way(side, cells))
 }
 
-// The side of this number, where there is one.
-fn side_of(number: u16) -> Option<Side>
-    ensures { MatchOption result ((x : Side) → sides.number x ≢ number) (λ x. sides.number x ≡ number) }
-{
-    let Ok(number) = u8::try_from(number) else {
-        return None;
-    };
-    Side::of(number)
+// The line of an answer, without its end.
+impl fmt::Display for Answer<&[u8]> {
+    ghost output = { λ answer. Some (line_of (told answer)) };
+
+    fn fmt<W: fmt::Write>(&self, f: &mut fmt::Formatter<W>) -> fmt::Result {
+        match *self {
+            Answer::Refused(why) => write!(f, "{why}"),
+            Answer::Number(n) => write!(f, "{n}"),
+            Answer::Way(side, cells) => write!(f, "way {}:{}", u8::from(side), Cells(cells)),
+            Answer::Yes(Some(cell)) => write!(f, "yes {cell}"),
+            Answer::Yes(None) => f.write_str("yes"),
+            Answer::No => f.write_str("no"),
+            Answer::TooMany => f.write_str("too many"),
+        }
+    }
+}
+
+// The cells of a way, a space before each.
+#[derive(Clone, Copy)]
+struct Cells<'a>(&'a [u8]);
+
+impl fmt::Display for Cells<'_> {
+    ghost output = { λ cells. Some (flat_map spaced (words cells.0.now)) };
+
+    fn fmt<W: fmt::Write>(&self, f: &mut fmt::Formatter<W>) -> fmt::Result {
+        let (pairs, _) = self.0.as_chunks::<2>();
+        for pair in pairs {
+            write!(f, " {}", u16::from_le_bytes(*pair))?;
+        }
+        Ok(())
+    }
 }

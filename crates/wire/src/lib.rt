@@ -11,7 +11,7 @@ pub use answer::{
     Answer, Unwritten, cell_at, count_cells, read_answer, write_answer, write_way_head,
 };
 pub use call::{Call, read_call, write_call};
-pub use refusal::Refusal;
+pub use refusal::{NoRefusal, Refusal};
 
 // Rows of bytes, good, short, long and unknown, with what they are; calls and answers with their bytes.
 #[cfg(test)]
@@ -48,12 +48,12 @@ mod tests {
     }
 
     // An answer of each kind, by its number.
-    fn example<'a>(number: u8, way: &'a [u8]) -> Answer<'a> {
+    fn example<'a>(number: u8, way: &'a [u8]) -> Answer<&'a [u8]> {
         match number {
             0 => Answer::Refused(Refusal::SmallMemory),
             1 => Answer::Number(258),
             2 => Answer::Way(Side::Two, way),
-            3 => Answer::Yes(0),
+            3 => Answer::Yes(None),
             4 => Answer::No,
             _ => Answer::TooMany,
         }
@@ -89,15 +89,16 @@ mod tests {
             write_answer(example(2, &way[1..4]), &mut out),
             Err(Unwritten::NotCells)
         );
+        assert_eq!(rt;
+            write_answer(Answer::Yes(Some(65535)), &mut out),
+            Err(Unwritten::NotCells)
+        );
         assert_eq!(rt; out, [9, 9, 9, 9, 9, 9, 9, 9]);
     }
 
     // The bytes of the answer that these bytes are, and how many; none if they are no answer.
     fn again(bytes: &[u8], out: &mut [u8]) -> Option<usize> {
-        let Some(answer) = read_answer(bytes) else {
-            return None;
-        };
-        write_answer(answer, out).ok()
+        write_answer(read_answer(bytes)?, out).ok()
     }
 
     #[test]

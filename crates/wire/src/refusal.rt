@@ -1,6 +1,10 @@
 // Why a call, or opening, is refused.
-ghost use Rattle.std.specs.Prelude.{◌≡◌, ℕ, MatchOption, ◌≢◌};
-ghost use Rattle.wire.specs.Numbers.{reason};
+ghost use Rattle.std.specs.Prelude.{◌≡◌, ℕ, Some};
+ghost use Rattle.wire.specs.Numbers.{reason, ByReason};
+ghost use Rattle.wire.specs.Answers.{refused_line, unknown_line};
+
+use std::error::Error;
+use std::fmt;
 
 #[derive(Clone, Copy, PartialEq, Eq, Debug)]
 pub enum Refusal {
@@ -21,6 +25,7 @@ pub enum Refusal {
 }
 
 impl Refusal {
+    // The number of the reason. Two refusals can have one number, so this is no conversion of a refusal.
     pub fn number(self) -> u16
         ensures { result ≡ (reason self).number }
     {
@@ -34,6 +39,7 @@ impl Refusal {
         }
     }
 
+    // The place, beside the number: of the first byte that does not fit, or which of two reasons with one number.
     pub fn place(self) -> u16
         ensures { result ≡ (reason self).place }
     {
@@ -44,20 +50,56 @@ impl Refusal {
                 0,
         }
     }
+}
 
-    // The refusal of this number and place, where there is one.
-    pub fn of(number: u16, place: u16) -> Option<Refusal>
-        ensures { MatchOption result ((x : Refusal) → (reason x).number ≡ number → (reason x).place ≢ place) (λ x. ((reason x).number ≡ number) × ((reason x).place ≡ place)) }
-    {
+// A number and a place that no refusal has.
+#[derive(Clone, Copy, PartialEq, Eq, Debug)]
+pub struct NoRefusal {
+    pub number: u16,
+    pub place: u16,
+}
+
+// The refusal of a number and a place.
+impl TryFrom<(u16, u16)> for Refusal {
+    type Error = NoRefusal;
+
+    ghost try_from_gives = { ByReason };
+
+    fn try_from((number, place): (u16, u16)) -> Result<Refusal, NoRefusal> {
         match (number, place) {
-            (1, byte) => Some(Refusal::Unreadable(byte)),
-            (2, 0) => Some(Refusal::NoCell),
-            (3, 0) => Some(Refusal::BadSize),
-            (3, 1) => Some(Refusal::SmallMemory),
-            (4, 0) => Some(Refusal::Over),
-            (5, 0) => Some(Refusal::Taken),
-            (6, 0) => Some(Refusal::NoMove),
-            _ => None,
+            (1, byte) => Ok(Refusal::Unreadable(byte)),
+            (2, 0) => Ok(Refusal::NoCell),
+            (3, 0) => Ok(Refusal::BadSize),
+            (3, 1) => Ok(Refusal::SmallMemory),
+            (4, 0) => Ok(Refusal::Over),
+            (5, 0) => Ok(Refusal::Taken),
+            (6, 0) => Ok(Refusal::NoMove),
+            _ => Err(NoRefusal { number, place }),
         }
     }
 }
+
+impl fmt::Display for NoRefusal {
+    ghost output = { λ e. Some (unknown_line e.number e.place) };
+
+    fn fmt<W: fmt::Write>(&self, f: &mut fmt::Formatter<W>) -> fmt::Result {
+        write!(
+            f,
+            "no refusal has number {} and place {}",
+            self.number, self.place
+        )
+    }
+}
+
+impl Error for NoRefusal {}
+
+// The line that an answer of a refusal is, without its end.
+impl fmt::Display for Refusal {
+    ghost output = { λ why. Some (refused_line (reason why).number (reason why).place) };
+
+    fn fmt<W: fmt::Write>(&self, f: &mut fmt::Formatter<W>) -> fmt::Result {
+        write!(f, "refused {} at {}", self.number(), self.place())
+    }
+}
+
+impl Error for Refusal {}

@@ -1,6 +1,6 @@
 use Rattle.std.proofs.Common.{string_bytes, sym}
 use Rattle.std.proofs.lemmas.List.{append-nil}
-use Rattle.wire.specs.Numbers.{words}
+use Rattle.hexboard.specs.Words.{words}
 use Rattle.text.specs.Boards.{cell_shown}
 use Rattle.text.proofs.Added.{each_more}
 use Rattle.text.proofs.drawing.write_cells.Goals as goal

@@ -1,5 +1,5 @@
 use Rattle.std.proofs.Common.{◌≡◌, ◌++◌, string_bytes}
-use Rattle.wire.specs.Numbers.{words}
+use Rattle.hexboard.specs.Words.{words}
 use Rattle.text.specs.Boards.{each, cell_shown}
 use Rattle.text.proofs.drawing.write_cells.Given as goal
 

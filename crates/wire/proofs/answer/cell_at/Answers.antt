@@ -1,12 +1,15 @@
-use Rattle.std.proofs.Common.{sym, ◌∙◌, arith}
-use Rattle.wire.proofs.Words.{words_long, word_at}
+use Rattle.std.proofs.Common.{◌<◌, ◌/◌, length, arith}
+use Rattle.std.proofs.lemmas.Bool.Decides.{nat_tests}
+use Rattle.hexboard.proofs.TwoBytes.{words_length, word_paired}
 use Rattle.wire.proofs.answer.cell_at.Goals as goal
 
-pub returns-then-k-cells : goal.returns-then-k-cells
-returns-then-k-cells c = omega (arith, words_long c.args.cells.now)
+pub returns-in_err-pair : goal.returns-in_err-pair
+returns-in_err-pair c = let n = words_length c.args.cells.now in let l = c.in_err-pair.ensures.lookup in let r = c.from_residual.ensures in rw r (omega arith)
 
 pub returns : goal.returns
-returns c = (
-  omega (arith, words_long c.args.cells.now),
-  c.from_le_bytes.ensures ∙ sym (word_at c.args.cells.now c.args.k c.if-k-cells.false),
-)
+returns c =
+    let l = c.in_ok-pair.ensures.lookup in
+    let n = words_length c.args.cells.now in
+    let i : c.args.k < length c.args.cells.now / 2 = omega (arith, l.3.0) in
+    let w = word_paired c.args.cells.now (length c.args.cells.now / 2) c.args.k 0 c.in_ok-pair.pair.now i (omega arith) in
+    (omega arith, grind (arith, nat_tests))

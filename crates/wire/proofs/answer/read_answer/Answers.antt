@@ -1,6 +1,6 @@
 use Rattle.std.proofs.Common.{[], sym, rules}
 use Rattle.std.proofs.lemmas.List.{drop_all, take_rest}
-use Rattle.wire.proofs.Replies.{a_byte, a_number, by_two_numbers}
+use Rattle.wire.proofs.Replies.{a_byte, a_cell, a_number, by_two_numbers}
 use Rattle.wire.proofs.answer.read_answer.Goals as goal
 
 pub returns-in-4 : goal.returns-in-4
@@ -15,7 +15,8 @@ returns-in-1 c =
 
 pub returns-in-3 : goal.returns-in-3
 returns-in-3 c =
-    (tt, a_number c.args.bytes.now (λ i. (c.type_inv.bytes i).fits) 3 c.from_le_bytes-in-3.result (search rules) (search rules) c.from_le_bytes-in-3.ensures)
+    a_cell c.args.bytes.now (λ i. (c.type_inv.bytes i).fits) c.from_le_bytes-in-3.result c.checked_sub.result (search rules) (search rules) c.from_le_bytes-in-3.ensures
+    c.from_le_bytes-in-3.type_inv c.checked_sub.ensures
 
 pub returns-in-0 : goal.returns-in-0
 returns-in-0 c =

@@ -1,5 +1,6 @@
-use Rattle.std.proofs.Common.{rules}
-use Rattle.wire.proofs.Replies.{other_count, a_way}
+use Rattle.std.proofs.Common.{ap, ◌∙◌, rules}
+use Rattle.std.specs.Result.{result_ok}
+use Rattle.wire.proofs.Replies.{other_count, a_way, side_read}
 use Rattle.wire.proofs.answer.read_way.Goals as goal
 
 pub returns-then-cells-from : goal.returns-then-cells-from
@@ -7,4 +8,5 @@ returns-then-cells-from c = other_count c.args.side c.args.count c.args.cells.no
 
 pub returns : goal.returns
 returns c =
-    a_way c.in-Some.side c.args.side c.args.count c.args.cells (λ i. (c.type_inv.cells i).fits) c.in-Some.ensures (search rules) (search rules)
+    let is = side_read c.in_ok-side.side c.args.side c.in_ok-ok.field-0 c.try_from.result c.try_from.ensures c.in_ok-ok.ensures.value (c.in_ok-side.ensures.value ∙ ap result_ok c.try_from-2.ensures) in
+    a_way c.in_ok-side.side c.args.side c.args.count c.args.cells (λ i. (c.type_inv.cells i).fits) is (search rules) (search rules)
