@@ -1,13 +1,8 @@
 -- What the parts of serving a line say, put together as what a line is answered by.
-use Rattle.std.proofs.Common.{◌≡◌, ℕ, List, ◌++◌, IfOk, Ok, Err, vec_items, codes, decimal, Result, ⊎_elim, ◌+◌, [], ◌∷◌, take, sym, ap, ◌∙◌}
+use Rattle.std.proofs.Common.{◌≡◌, ℕ, List, ◌++◌, IfOk, Ok, Err, codes, decimal, Result, ⊎_elim, ◌+◌, [], ◌∷◌, take, sym, ap, ◌∙◌}
 use Rattle.std.proofs.lemmas.List.{flat_map_more}
 use Rattle.std.specs.List.{flat_map}
 use Rattle.hexboard.specs.Games as games
-use Rattle.wire.specs.Formal.{asked}
-use Rattle.session.specs.Desks.{desk_game}
-use Rattle.session.specs.Replies.{replied}
-use Rattle.session.specs.declared.desk.Desk.{Desk}
-use Rattle.session.specs.declared.reply.Reply.{Reply}
 use Rattle.wire.specs.declared.call.Call.{Call}
 use Rattle.wire.specs.Answers.{line_of}
 use Rattle.text.specs.Lines.{Asks, Says}

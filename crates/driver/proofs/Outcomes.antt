@@ -1,16 +1,9 @@
 -- Who has won, and the board drawn with a way marked.
-use Rattle.std.proofs.Common.{◌≡◌, ℕ, Bool, true, false, not, ◌⊎◌, List, ◌++◌, is_some, Some, None, codes, Decides, Option, refl, subst, inl, inr, arith}
+use Rattle.std.proofs.Common.{◌≡◌, ℕ, Bool, true, false, not, ◌⊎◌, List, is_some, Some, None, Decides, Option, refl, subst, inl, inr, arith}
 use Rattle.hexboard.specs.Games as games
 use Rattle.hexboard.specs.Sides.{number}
 use Rattle.hexboard.specs.declared.side.Side.{Side}
 use Rattle.hexboard.specs.declared.side.Side.TheVariants.{One, Two}
-use Rattle.text.specs.Boards.{board_lines, outcome_line}
-use Rattle.text.proofs.Added.{three_parts}
-use Rattle.hexboard.specs.Board.{empties}
-use Rattle.wire.specs.declared.call.Call.{Call}
-use Rattle.wire.specs.declared.call.Call.TheVariants as call
-use Rattle.driver.specs.declared.limits.Limits.{Limits}
-use Rattle.driver.specs.Served.{TooLong, Beyond}
 use Rattle.driver.specs.Drawn.{Outcome, Drawn, Marked, shown_by}
 
 one_or_two : (side : Side) → (number side ≡ 1) ⊎ (number side ≡ 2)

@@ -11,6 +11,7 @@ use crate::reply::Reply;
 use crate::serve::serve;
 use hexboard::Size;
 use history::Game;
+use thiserror::Error;
 use wire::Refusal;
 
 // The parts of the lent memory, one behind the other: a byte for each stone; two for each move; two for each cell's parent in its group,
@@ -25,7 +26,8 @@ pub struct Parts<'a> {
 }
 
 // Why a game was not opened, and the memory, which is as it was.
-#[derive(Drop)]
+#[derive(Debug, Drop, Error)]
+#[error("{why}")]
 pub struct Closed<'a> {
     pub why: Refusal,
     pub memory: &'a mut [u8],

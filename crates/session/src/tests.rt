@@ -48,7 +48,7 @@ fn each_side_can_win(rt: HostRuntime) -> Result<(), Fail> {
     let mut desk = opened(rt.alloc(), 3)?;
     play(&mut desk, &[4, 0, 8, 2, 6, 3, 5])?;
     assert_eq!(rt; desk.serve(Call::Who), Reply::Number(0));
-    assert_eq!(rt; desk.serve(Call::CanForce), Reply::Yes(2));
+    assert_eq!(rt; desk.serve(Call::CanForce), Reply::Yes(Some(1)));
     assert_eq!(rt; desk.serve(Call::Move(1)), Reply::Number(7));
     assert_eq!(rt; desk.serve(Call::Who), Reply::Way(Side::Two, 3));
     assert_eq!(rt; desk.serve(Call::CanForce), Reply::No);

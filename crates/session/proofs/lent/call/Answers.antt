@@ -30,7 +30,7 @@ returns-clause-called c =
         right = right_read _ _ c.args.bytes.now c.in-Ok.call (replied reply way) (sym c.in-Ok.is ∙ c.read_call.ensures.value) c.serve-reply.ensures.right;
         shown_in =
             served_shown c.args.answer.now way c.show.new.answer reply c.show.result (omega (arith, roomy before, c.serve-reply.ensures.fits)) (way_long before)
-            c.serve-reply.ensures.behind c.show.ensures;
+            c.serve-reply.ensures.behind (c.show.ensures c.serve-reply.ensures.has_bytes);
         holds = c.serve-reply.ensures.holds;
         same_size = c.serve-reply.ensures.same_size;
         refused = λ h. let (why, is) = refuses_only reply way h in let (g, m, s) = c.serve-reply.ensures.refused why is in (g, m, ap (λ t. t.scratch) s);

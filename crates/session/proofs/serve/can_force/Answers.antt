@@ -29,10 +29,10 @@ nobody c = ap won_by (sym c.winner.ensures ∙ c.in_default.is)
 judged : (c : After-can_force) → Judges c.args.game.size.n (number c.turn-turn.result) c.args.stones.now c.args.parents.now c.args.borders.now c.can_force.result
 judged c = subst (λ s. Judges s.n (number c.turn-turn.result) c.args.stones.now c.args.parents.now c.args.borders.now c.can_force.result) c.size.ensures c.can_force.ensures.right
 
-pub overflow_add-result : goal.overflow_add-result
-overflow_add-result c =
+pub returns-in-Yes-clause-has_bytes : goal.returns-in-Yes-clause-has_bytes
+returns-in-Yes-clause-has_bytes c =
     let (log, h) = c.requires.holds in
-    let before = (goal.at.overflow_add-result c).After-can_force in
+    let before = (goal.at.returns-in-Yes-clause-has_bytes c).After-can_force in
     let told = subst (Judges c.args.game.size.n (number c.turn-turn.result) c.args.stones.now c.args.parents.now c.args.borders.now) c.in-Yes.is (judged before) in
     let few : c.args.game.size.n * c.args.game.size.n ≤ 361 = mul-le-mul c.args.game.size.few c.args.game.size.few in
     omega (arith, small_cell c.args.game (lent c.args.stones.now log c.args.parents.now c.args.borders.now) h c.turn-turn.result c.turn-turn.ensures (nobody before) c.in-Yes.cell told)

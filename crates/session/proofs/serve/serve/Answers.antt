@@ -12,6 +12,7 @@ returns-in-Some c = record {
   holds = c.requires.holds;
   same_size = refl;
   refused = λ why e. absurd (not_refused_way c.in-Some.side c.in-Some.cells why e);
+  has_bytes = tt;
   fits = c.in-Some.ensures.fits;
   behind = c.in-Some.ensures.behind;
 }
@@ -22,6 +23,7 @@ returns-in-None c = record {
   holds = c.requires.holds;
   same_size = refl;
   refused = λ why e. absurd (not_refused_number 0 why e);
+  has_bytes = tt;
   fits = c.in-None.ensures.fits;
   behind = c.in-None.ensures.behind;
 }

@@ -1,10 +1,8 @@
 use Rattle.std.proofs.Common.{◌≡◌, sym, subst, arith}
 use Rattle.history.specs.Holds.{lent, Holds}
-use Rattle.wire.specs.Formal.{asked}
 use Rattle.session.specs.Desks.{memory_of}
 use Rattle.session.specs.Keeps.{Roomy}
-use Rattle.session.specs.Replies.{replied}
-use Rattle.session.proofs.Keeping.{whole, desk_holds, kept_in, given_back, memory_back, right_as}
+use Rattle.session.proofs.Keeping.{whole, desk_holds, kept_in, memory_back}
 use Rattle.session.proofs.desk.Desk.serve.Goals as goal
 use Rattle.session.proofs.desk.Desk.serve.Goals.{After-deref_mut-6, After-serve-reply}
 
