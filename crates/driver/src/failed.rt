@@ -1,4 +1,5 @@
 // Why a line could not be served.
+use std::alloc::AllocError;
 use std::fmt;
 use thiserror::Error;
 
@@ -9,6 +10,13 @@ pub struct Failed;
 
 impl From<fmt::Error> for Failed {
     fn from(_: fmt::Error) -> Self {
+        Failed
+    }
+}
+
+// What `write!` of a `String` fails by.
+impl From<AllocError> for Failed {
+    fn from(_: AllocError) -> Self {
         Failed
     }
 }

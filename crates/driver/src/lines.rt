@@ -12,7 +12,7 @@ use session::{Desk, Reply, Unopened, with_way};
 use std::alloc::Global;
 use std::fmt;
 use std::fmt::Write;
-use text::{Line, read_line, write_answer, write_refusal};
+use text::{Line, read_line};
 use wire::{Call, Refusal};
 
 // Adds that a line cannot be read, and the place of its first byte that does not fit.
@@ -96,7 +96,7 @@ fn open_first(
             Ok(Some(desk))
         }
         None => {
-            write_refusal(out, Refusal::BadSize)?;
+            write!(out, "{}", Refusal::BadSize)?;
             Ok(None)
         }
     }
@@ -151,7 +151,8 @@ fn serve(limits: Limits, desk: &mut Desk, call: Call, out: &mut String) -> Resul
     } else {
         desk.serve(call)
     };
-    write_answer(out, with_way(reply, desk.way()))?;
+    let answer = with_way(reply, desk.way());
+    write!(out, "{answer}")?;
     Ok(served_by(reply))
 }
 
@@ -184,7 +185,7 @@ fn reopen(
             Ok(Served::Taken)
         }
         None => {
-            write_refusal(out, Refusal::BadSize)?;
+            write!(out, "{}", Refusal::BadSize)?;
             Ok(Served::Refused)
         }
     }

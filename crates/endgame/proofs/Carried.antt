@@ -71,10 +71,6 @@ module _ {b : Board} {es : List ℕ} (n : Numbered b es) (w : ℕ) (side : Side 
       (forced_by (x + 2 ^ k) c f (laid_put (mark w (x + 2 ^ k) e) k w n now l (mark_stone w (x + 2 ^ k) e k stone) else)
       (λ j _. mark_more w (x + 2 ^ k) c e j (λ i h. or_left i c (2 ^ k) h)))
 
-  -- at first every free cell must be tried
-  pub tried_none : (x free : ℕ) → Tried b es w x free free 0
-  tried_none x free = record { inside = λ k h. absurd (omega (arith, bit_none k)); answered = λ k h i. absurd (omega arith) }
-
   -- a win of w: only the cells of its carrier must be tried still
   pub tried_more : (x free must lost c : ℕ) → Tried b es w x free must lost → Within c free → Wins b es w x c →
       Tried b es w x free (bit_and must c) (bit_or lost c)

@@ -7,4 +7,3 @@ pub mod Nodes
 pub mod Full
 pub mod Searching
 pub mod Law
-pub mod Weighing

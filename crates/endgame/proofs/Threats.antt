@@ -1,5 +1,5 @@
 -- What threats leave to try: the one cell that is threatened, or nothing.
-use Rattle.std.proofs.Common.{◌≡◌, ℕ, ◌-◌, ◌^◌, ◌≢◌, ◌⊎◌, sym, refl, ap, ◌∙◌, ⊎_elim, arith}
+use Rattle.std.proofs.Common.{◌≡◌, ℕ, ◌-◌, ◌^◌, ◌≢◌, sym, refl, ap, ◌∙◌, ⊎_elim, arith}
 use lib.Bits.{bit_or}
 use Rattle.std.proofs.lemmas.Bool.{cases_eq}
 use Rattle.ranking.specs.Sets.{bit, Within}
@@ -16,6 +16,10 @@ one_only t k h = ⊎_elim (λ p. p.0) (λ p. absurd (omega arith)) (bit_one t k)
 -- a set of one cell of a set is within it
 pub one_within : (t x : ℕ) → bit t x ≡ 1 → Within (2 ^ t) x
 one_within t x h k i = rw (one_only t k i) h
+
+-- where nothing is threatened every free cell must be tried
+pub no_threat : (threats free : ℕ) → Replied threats free (record { must = free; lost = 0 })
+no_threat threats free = record { inside = λ k h. h; lost_in = λ k h. absurd (omega (arith, bit_none k)); left = λ k h out. absurd (omega arith) }
 
 pub one_threat : (threats free t : ℕ) → Within threats free → bit t threats ≡ 1 → Replied threats free (record { must = 2 ^ t; lost = 2 ^ t })
 one_threat threats free t w h = record {
@@ -36,16 +40,3 @@ two_threats threats free t u h i =
           (λ other. (t, other, or_left t (2 ^ t) (2 ^ u) (one_in t)))
           (cases_eq t k);
     }
-
--- what the choice of the best cell keeps: a cell of the set, and what is left to look at
-pub record Choosing (must best rest : ℕ) : Type 0 where
-  pub chosen : bit best must ≡ 1
-  pub inside : Within rest must
-
--- one cell has been looked at, whether it is taken or not
-pub choosing_more : {must best rest : ℕ} (k z next : ℕ) → Choosing must best rest → bit k rest ≡ 1 → z ≡ 2 ^ k →
-    (next ≡ best) ⊎ (next ≡ k) → Choosing must next (rest - z)
-choosing_more {must} {best} {rest} k z next h i e which = record {
-  chosen = ⊎_elim (λ s. rw s h.chosen) (λ s. rw s (h.inside k i)) which;
-  inside = λ j l. h.inside j (⊎_elim (λ p. absurd (omega arith)) (λ p. sym p.1 ∙ l) (rw (← e) at (bit_less k rest i j)));
-}

@@ -1,5 +1,5 @@
 -- Ends of games: the empty cells of a board laid with stones, and what is said of wins there. Definitions only.
-use Rattle.std.specs.Prelude.{◌≡◌, ℕ, suc, ◌+◌, ◌-◌, ◌^◌, ◌<◌, true, false, cond, ◌⊎◌, List, [], ◌∷◌, length, ◌==◌, count_ones, slice_index}
+use Rattle.std.specs.Prelude.{◌≡◌, ℕ, suc, ◌+◌, ◌-◌, ◌^◌, ◌<◌, cond, ◌⊎◌, List, [], ◌∷◌, length, ◌==◌, count_ones, slice_index, IfSome}
 use Rattle.hexboard.specs.Board.{Board, at, Connects, put, other}
 use Rattle.hexboard.specs.Games.{Forces}
 use Rattle.hexboard.specs.Promise.{Good}
@@ -9,6 +9,7 @@ use Rattle.ranking.specs.Positions.{Position as PositionOf}
 use Rattle.ranking.specs.Table.{entry}
 use Rattle.endgame.specs.declared.links.Links.{Links}
 use Rattle.endgame.specs.declared.search.Found.{Found}
+use Rattle.endgame.specs.declared.search.Found.TheVariants.{Won, Lost}
 use Rattle.endgame.specs.declared.search.Position.{Position}
 use Rattle.endgame.specs.Floods.{Mutual, Joins}
 
@@ -75,19 +76,16 @@ pub data Known (b : Board) (es : List ℕ) (s x y free v : ℕ) : Type 0 where
 abbrev pub Sound : ℕ → Board → List ℕ → ℕ → List ℕ → Type 0
 Sound e b es a t = (s x y free : ℕ) → Turn a s x y → Node e x y free → Known b es s x y free (entry t (place e x y))
 
--- the one cell of step is a free cell, and with its own stone there side s stands
+-- the step is a free cell, and with its own stone there side s stands
 pub record Step (b : Board) (es : List ℕ) (s x free step : ℕ) : Type 0 where
-  pub cell : ℕ
-  pub is : step ≡ 2 ^ cell
-  pub of : bit cell free ≡ 1
+  pub of : bit step free ≡ 1
   pub carrier : ℕ
-  pub stands : Stands b es s (x + 2 ^ cell) carrier
+  pub stands : Stands b es s (x + 2 ^ step) carrier
 
 -- What the search tells of a node: the side to move wins within the carrier, by the step if one is named; or the other does.
-pub record Told (b : Board) (es : List ℕ) (s x y free : ℕ) (f : Found) : Type 0 where
-  pub wins : f.won ≡ true → Wins b es s x f.carrier
-  pub moves : f.won ≡ true → 0 < f.step → Step b es s x free f.step
-  pub loses : f.won ≡ false → Stands b es (other s) y f.carrier
+abbrev pub Told : Board → List ℕ → ℕ → ℕ → ℕ → ℕ → Found → Type 0
+Told b es s x y free (Won carrier step) = Wins b es s x carrier × IfSome step (Step b es s x free)
+Told b es s x y free (Lost carrier) = Stands b es (other s) y carrier
 
 -- the position after a move, seen by the other side
 abbrev pub moved : Position → ℕ → Position

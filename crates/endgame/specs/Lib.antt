@@ -1,4 +1,6 @@
 pub mod Floods
+pub mod Winners
+pub mod Findings
 pub mod Ends
 pub mod Replies
 pub mod Linked

@@ -1,14 +1,15 @@
 // The search: who wins a position of an end, within which cells, and by which move.
-ghost use Rattle.std.specs.Prelude.{◌≡◌, ℕ, ◌+◌, ◌-◌, ◌*◌, ◌^◌, ◌<◌, ◌≤◌, true, length};
-ghost use Rattle.ranking.specs.Sets.{Within, One};
+ghost use Rattle.std.specs.Prelude.{◌≡◌, ℕ, ◌+◌, ◌-◌, ◌*◌, ◌^◌, ◌<◌, ◌≤◌, length};
+ghost use Rattle.ranking.specs.Sets.{bit, Within};
 ghost use Rattle.ranking.specs.Positions.{place, total};
 ghost use Rattle.ranking.specs.Table.{entry};
 ghost use Rattle.endgame.specs.Ends.{Node, Tells, moved};
+ghost use Rattle.endgame.specs.Findings.{carrier_of, StepsInto, NamesStep};
 ghost use Rattle.endgame.specs.Replies.{Replied};
 
-use super::floods::{completions, weight};
 use super::links::Links;
-use ranking::{Ranking, get, lowest, one, put};
+use super::winner::{NoWinner, Winner};
+use ranking::{Cells, Ranking, get, lowest, one, put};
 
 // The stones laid since the end began, of the side to move and of the other, and the free cells.
 #[derive(Clone, Copy)]
@@ -18,13 +19,27 @@ pub struct Position {
     pub free: u64,
 }
 
-// Whether the side to move wins; the cells that the win rests on, its carrier: even if all the other free cells go to the loser,
-// it stands; and the winning move as a set of one cell, or none if it is not known.
-#[derive(Clone, Copy)]
-pub struct Found {
-    pub won: bool,
-    pub carrier: u64,
-    pub step: u64,
+impl Position {
+    // The position after a move of the side to move: then the other is to move.
+    fn after(self, step: u32) -> Position
+        requires fits { (self.mine < 2 ^ 16) × (step < 16) }
+        requires free { 2 ^ step ≤ self.free }
+        ensures { result ≡ moved self (2 ^ step) }
+    {
+        Position {
+            mine: self.theirs,
+            theirs: self.mine + one(step),
+            free: self.free - one(step),
+        }
+    }
+}
+
+// Whether the side to move wins or loses; and the cells that this rests on, its carrier: even if all the other free cells go to the
+// loser, it stands. The step is the cell of a winning move, if one is known.
+#[derive(Clone, Copy, PartialEq, Eq, Debug)]
+pub enum Found {
+    Won { carrier: u64, step: Option<u32> },
+    Lost { carrier: u64 },
 }
 
 // The cells that must be tried, and those of the threats that show the others to be lost.
@@ -40,75 +55,50 @@ fn replies(threats: u64, free: u64) -> Cut
     requires { Within threats free }
     ensures { Replied threats free result }
 {
-    if threats == 0 {
+    let mut cells = Cells::of(threats);
+    let Some(threat) = cells.next() else {
         return Cut {
             must: free,
             lost: 0,
         };
-    }
-    let threat = one(lowest(threats));
-    let others = threats - threat;
-    if others == 0 {
+    };
+    let Some(another) = cells.next() else {
         return Cut {
-            must: threat,
-            lost: threat,
+            must: one(threat),
+            lost: one(threat),
         };
-    }
+    };
     Cut {
         must: 0,
-        lost: threat | one(lowest(others)),
+        lost: one(threat) | one(another),
     }
 }
 
-// The cells that an end can have.
-const CELLS: u64 = 0xffff;
-
-// Of the cells that must be tried, the one that is linked best for both sides together. Only stones on cells of an end weigh.
-fn best(mine: &Links, theirs: &Links, at: Position, must: u64) -> u64
+// Of the cells that must be tried, the first of those that are linked best for both sides together.
+fn best(mine: &Links, theirs: &Links, at: Position, must: u64) -> u32
     requires some { 0 < must }
     requires fits { must < 2 ^ 16 }
-    ensures { One must result }
+    requires laid { (at.mine < 2 ^ 16) × (at.theirs < 2 ^ 16) }
+    ensures { bit result must ≡ 1 }
 {
-    let own = at.mine & CELLS;
-    let others = at.theirs & CELLS;
     let mut best = lowest(must);
     let mut most = 0;
-    let mut rest = must;
-    while rest > 0 {
-        let k = lowest(rest);
-        rest -= one(k);
-        let linked = weight(mine, k, own, at.free) + weight(theirs, k, others, at.free);
-        if linked > most {
-            most = linked;
-            best = k;
+    for cell in Cells::of(must) {
+        let own = mine.weight(cell, at.mine, at.free);
+        let others = theirs.weight(cell, at.theirs, at.free);
+        if own + others > most {
+            most = own + others;
+            best = cell;
         }
     }
-    one(best)
-}
-
-// What a table's entry says: the side to move wins, or the other does; 0 says nothing.
-const WON: u8 = 1;
-
-const LOST: u8 = 2;
-
-impl Position {
-    // The position after a move of the side to move: then the other is to move.
-    fn after(self, step: u64) -> Position
-        requires fits { (self.mine < 2 ^ 16) × (step < 2 ^ 16) }
-        requires free { step ≤ self.free }
-        ensures { result ≡ moved self step }
-    {
-        Position {
-            mine: self.theirs,
-            theirs: self.mine + step,
-            free: self.free - step,
-        }
-    }
+    best
 }
 
 // Who wins a position. A cell that connects at once is taken; else, where the other threatens to connect on two cells, nothing
 // helps, and where on one, it is stopped. A position that is not decided so is searched once: what is found goes into the table.
 // After a move that loses only the cells of the winner's carrier are tried, since any other move would leave that win as it is.
+//
+// The parameters stand apart: lent as one struct of references the search took longer, 20.3 ms and not 19.9 for the ends of random-5.
 pub fn solve(
     ranking: &Ranking,
     table: &mut [u8],
@@ -118,58 +108,50 @@ pub fn solve(
 ) -> Found
     requires node { Node ranking.now.cells at.mine at.theirs at.free }
     requires room { total ranking.now.cells ≤ 4 * length table.old }
-    ensures within { Within result.carrier at.free }
-    ensures stepped { Within result.step at.free }
-    ensures named { entry table.old (place ranking.now.cells at.mine at.theirs) ≡ 0 → result.won ≡ true → 0 < result.step }
+    ensures within { Within (carrier_of result) at.free }
+    ensures stepped { StepsInto result at.free }
+    ensures named { entry table.old (place ranking.now.cells at.mine at.theirs) ≡ 0 → NamesStep result }
     ensures tells { Tells ranking.now.cells mine.now theirs.now at table.old table.new result }
 {
-    let own = completions(mine, at.mine, at.free);
-    if own > 0 {
-        let step = one(lowest(own));
-        return Found {
-            won: true,
-            carrier: step,
-            step,
+    if let Some(step) = Cells::of(mine.completions(at.mine, at.free)).next() {
+        return Found::Won {
+            carrier: one(step),
+            step: Some(step),
         };
     }
-    let cut = replies(completions(theirs, at.theirs, at.free), at.free);
+    let cut = replies(theirs.completions(at.theirs, at.free), at.free);
     if cut.must == 0 {
-        return Found {
-            won: false,
-            carrier: cut.lost,
-            step: 0,
-        };
+        return Found::Lost { carrier: cut.lost };
     }
     let place = ranking.place(at.mine, at.theirs);
-    let known = get(table, place);
-    if known > 0 {
-        return Found {
-            won: known == WON,
-            carrier: at.free,
-            step: 0,
-        };
-    }
-    let mut must = cut.must;
-    let mut found = Found {
-        won: false,
-        carrier: cut.lost,
-        step: 0,
-    };
-    while must > 0 {
-        let step = best(mine, theirs, at, must);
-        let next = solve(ranking, table, theirs, mine, at.after(step));
-        if next.won {
-            must &= next.carrier;
-            found.carrier |= next.carrier;
-        } else {
-            must = 0;
-            found = Found {
-                won: true,
-                carrier: next.carrier | step,
-                step,
+    match Winner::try_from(get(table, place)) {
+        Ok(Winner::Mover) => {
+            return Found::Won {
+                carrier: at.free,
+                step: None,
             };
         }
+        Ok(Winner::Other) => return Found::Lost { carrier: at.free },
+        Err(NoWinner) => {}
     }
-    put(table, place, if found.won { WON } else { LOST });
-    found
+    let mut must = cut.must;
+    let mut lost = cut.lost;
+    while must > 0 {
+        let step = best(mine, theirs, at, must);
+        match solve(ranking, table, theirs, mine, at.after(step)) {
+            Found::Won { carrier, .. } => {
+                must &= carrier;
+                lost |= carrier;
+            }
+            Found::Lost { carrier } => {
+                put(table, place, Winner::Mover.into());
+                return Found::Won {
+                    carrier: carrier | one(step),
+                    step: Some(step),
+                };
+            }
+        }
+    }
+    put(table, place, Winner::Other.into());
+    Found::Lost { carrier: lost }
 }

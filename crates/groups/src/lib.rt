@@ -15,7 +15,9 @@ use hexboard::{Side, Size};
 
 // The groups of a board in lent memory. Each stone has a parent in its group, a later stone, or is the group's root: its last stone,
 // which is its own parent. `parents` holds two bytes for each cell, low byte first. `borders` holds a byte for each cell, whose bits
-// at a root say which borders the group touches: 1 for the first, 2 for the last.
+// at a root say which borders the group touches: 1 for the first, 2 for the last; bits, since the bytes of lent memory are fixed.
+// It is passed by value: a proof then knows what its references lead to afterwards, which it does not for a `&mut` of such a struct.
+#[derive(Drop)]
 pub struct Groups<'a> {
     pub parents: &'a mut [u8],
     pub borders: &'a mut [u8],

@@ -1,6 +1,6 @@
 -- Numbers of two bytes in memory: how many there are, what is read, and what is written.
-use Rattle.std.proofs.Common.{map, ◌≡◌, ℕ, zero, suc, ◌+◌, ◌*◌, ◌/◌, ◌%◌, ◌<◌, ◌≤◌, List, [], ◌∷◌, length, get_or, set, take, drop, replicate, sym, refl, ap, ◌∙◌, ⊎_elim, arith}
-use Rattle.std.proofs.lemmas.List.{ext_get_or, get_or_past, set_past}
+use Rattle.std.proofs.Common.{map, ◌≡◌, ℕ, zero, suc, ◌+◌, ◌*◌, ◌/◌, ◌%◌, ◌<◌, ◌≤◌, List, [], ◌∷◌, length, get_or, set, take, replicate, sym, refl, ap, ◌∙◌, ⊎_elim, arith}
+use Rattle.std.proofs.lemmas.List.{ext_get_or, set_past}
 use borrow.Rule.Slice.PartMut.{put_mid}
 use Rattle.std.specs.Simd.{first_chunks}
 use Rattle.std.proofs.lemmas.Bool.{cases_eq}
@@ -19,20 +19,12 @@ low_on i = omega arith
 high_on : (i : ℕ) → suc i * 2 + 1 ≡ suc (suc (i * 2 + 1))
 high_on i = omega arith
 
--- Number i is read at bytes i * 2 and i * 2 + 1,
+-- Number i is read at bytes i * 2 and i * 2 + 1.
 pub word_at : (bs : List ℕ) (i d : ℕ) → i * 2 + 1 < length bs → get_or (words bs) i d ≡ get_or bs (i * 2) 0 + get_or bs (i * 2 + 1) 0 * 256
 word_at [] i d l = omega arith
 word_at (a ∷ []) i d l = omega arith
 word_at (a ∷ (b ∷ bs)) zero d l = refl
 word_at (a ∷ (b ∷ bs)) (suc i) d l = rw (high_on i, low_on i) (word_at bs i d (omega arith))
-
--- and written there.
-pub word_set : (bs : List ℕ) (i low high v : ℕ) → i * 2 + 1 < length bs → v ≡ low + high * 256 →
-    words (set (set bs (i * 2) low) (i * 2 + 1) high) ≡ set (words bs) i v
-word_set [] i low high v l e = absurd (omega arith)
-word_set (a ∷ []) i low high v l e = absurd (omega arith)
-word_set (a ∷ (b ∷ bs)) zero low high v l e = ap (λ w. w ∷ words bs) (sym e)
-word_set (a ∷ (b ∷ bs)) (suc i) low high v l e = rw (high_on i, low_on i) (ap (λ ws. (a + b * 256) ∷ ws) (word_set bs i low high v (omega arith) e))
 
 -- Number i stands in pair i of the bytes,
 pub word_paired : (bs : List ℕ) (k i d : ℕ) (none : List ℕ) → i < k → k * 2 ≤ length bs →
@@ -62,28 +54,19 @@ word_put (a ∷ (b ∷ bs)) zero low high v at size ys p q l y e = rw (p, q, y, 
 word_put (a ∷ (b ∷ bs)) (suc i) low high v at size ys p q l y e =
     rw (p, low_on i) (ap (λ ws. (a + b * 256) ∷ ws) (word_put bs i low high v (i * 2) size ys refl q (omega arith) y e))
 
--- Past the bytes there is no number to read or write.
-pub word_past : (bs : List ℕ) (i : ℕ) → length bs ≤ i * 2 + 1 → length (words bs) ≤ i
+-- Past the bytes there is no number to write.
+word_past : (bs : List ℕ) (i : ℕ) → length bs ≤ i * 2 + 1 → length (words bs) ≤ i
 word_past bs i l = omega (arith, words_length bs)
-
-pub read_past : (bs : List ℕ) (i d : ℕ) → length bs ≤ i * 2 + 1 → get_or (words bs) i d ≡ d
-read_past bs i d l = get_or_past (words bs) i d (word_past bs i l)
 
 pub write_past : (bs : List ℕ) (i v : ℕ) → length bs ≤ i * 2 + 1 → words bs ≡ set (words bs) i v
 write_past bs i v l = sym (set_past (words bs) i v (word_past bs i l))
 
--- The first numbers stand in the first bytes, and those behind them in the bytes behind.
+-- The first numbers stand in the first bytes.
 pub words_take : (k : ℕ) (bs : List ℕ) → words (take (k * 2) bs) ≡ take k (words bs)
 words_take zero bs = refl
 words_take (suc k) [] = rw (low_on k) refl
 words_take (suc k) (low ∷ []) = rw (low_on k) refl
 words_take (suc k) (low ∷ (high ∷ bs)) = rw (low_on k) (ap (λ ws. (low + high * 256) ∷ ws) (words_take k bs))
-
-pub words_drop : (k : ℕ) (bs : List ℕ) → words (drop (k * 2) bs) ≡ drop k (words bs)
-words_drop zero bs = refl
-words_drop (suc k) [] = rw (low_on k) refl
-words_drop (suc k) (low ∷ []) = rw (low_on k) refl
-words_drop (suc k) (low ∷ (high ∷ bs)) = rw (low_on k) (words_drop k bs)
 
 -- Bytes that are all 0 are numbers that are all 0.
 pub words_zeros : (n : ℕ) → words (replicate (n * 2) 0) ≡ replicate n 0

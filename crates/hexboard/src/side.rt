@@ -1,7 +1,7 @@
 // The two sides of a game.
 ghost use Rattle.std.specs.Prelude.{◌≡◌, ℕ, ◌++◌, Some, codes, decimal};
 ghost use Rattle.hexboard.specs.Board.{other};
-ghost use Rattle.hexboard.specs.Sides.{number, by_number, side_numbered};
+ghost use Rattle.hexboard.specs.Sides.{number, side_numbered};
 
 use std::error::Error;
 use std::fmt;
@@ -14,20 +14,6 @@ pub enum Side {
 }
 
 impl Side {
-    // 1 or 2, as a cell holds it.
-    pub fn number(self) -> u8
-        ensures { result ≡ number self }
-    {
-        u8::from(self)
-    }
-
-    // The side of this number, where there is one.
-    pub fn of(number: u8) -> Option<Side>
-        ensures { result ≡ by_number number }
-    {
-        Side::try_from(number).ok()
-    }
-
     // The side that plays against this one.
     pub fn opponent(self) -> Side
         ensures { number result ≡ other (number self) }

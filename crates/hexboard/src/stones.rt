@@ -78,6 +78,8 @@ pub fn clear(cells: &mut [u8])
 pub fn first_pair(size: Size, cells: &[u8]) -> Option<(u16, u16)>
     ensures { MatchOption result (NoPair (laid size.n cells.now)) (λ p. FirstPair (laid size.n cells.now) p.0 p.1) }
 {
+    let mut found = None;
+    // Both loops are left from inside, by the label.
     'cells: for i in 0..size.cells() {
         let Some(side) = stone(cells, i) else {
             continue 'cells;
@@ -87,11 +89,12 @@ pub fn first_pair(size: Size, cells: &[u8]) -> Option<(u16, u16)>
                 continue;
             };
             if stone(cells, j) == Some(side) {
-                return Some((i, j));
+                found = Some((i, j));
+                break 'cells;
             }
         }
     }
-    None
+    found
 }
 
 #[cfg(test)]

@@ -1,5 +1,5 @@
 -- The cells of a set as a list, from the lowest.
-use Rattle.std.proofs.Common.{◌≡◌, ℕ, zero, suc, ◌+◌, ◌-◌, ◌/◌, ◌%◌, ◌^◌, ◌<◌, ◌≤◌, [], ◌∷◌, length, refl, sym, ap, ◌∙◌, ⊎_elim, pow-suc, arith}
+use Rattle.std.proofs.Common.{◌≡◌, ℕ, zero, suc, ◌+◌, ◌-◌, ◌/◌, ◌%◌, ◌^◌, ◌<◌, ◌≤◌, List, [], ◌∷◌, length, get_or, drop, refl, sym, ap, ◌∙◌, ⊎_elim, pow-suc, arith}
 use lib.Count.{count_trailing_zeros}
 use Rattle.std.specs.List.{All}
 use Rattle.std.proofs.lemmas.List.Elements.{All-nil, All-cons}
@@ -50,3 +50,17 @@ members_in x = all_in 64 0 x x (λ j. let same : 0 + j ≡ j = omega arith in rw
 -- A set with no cell in the list is empty.
 pub members_empty : (x : ℕ) → x < 2 ^ 64 → members x ≡ [] → x ≡ 0
 members_empty x f h = ⊎_elim (λ p. absurd (omega (arith, ap length (members_lowest (count_trailing_zeros 64 x) x f (lowest_in 64 x p f).0 (none_below 64 x)), ap length h))) (λ p. omega arith) (cases_lt 0 x)
+
+-- The first of the list is in the set, and the others are what is left without it.
+pub members_rest : (x c : ℕ) (rest : List ℕ) → x < 2 ^ 64 → members x ≡ c ∷ rest → (bit c x ≡ 1) × (c < 64) × (rest ≡ members (x - 2 ^ c))
+members_rest x c rest f h = ⊎_elim go (λ p. absurd (omega (arith, ap length h, ap (λ y. length (members y)) (none p), ap length (members_none 64 0)))) (cases_lt 0 x)
+  where
+    none : x ≤ 0 → x ≡ 0
+    none p = omega arith
+
+    go : 0 < x → (bit c x ≡ 1) × (c < 64) × (rest ≡ members (x - 2 ^ c))
+    go p =
+        let (in-x, small) = lowest_in 64 x p f in
+        let same = sym h ∙ members_lowest (count_trailing_zeros 64 x) x f in-x (none_below 64 x) in
+        let head : c ≡ count_trailing_zeros 64 x = ap (λ l. get_or l 0 0) same in
+        rw head (in-x, small, ap (drop 1) same)

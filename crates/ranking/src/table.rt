@@ -1,4 +1,5 @@
-// A table of numbers below 4 in lent memory, four to a byte.
+// A table of numbers below 4 in lent memory, four to a byte. What a number says is for whoever writes it, so it is no enum here; a byte
+// that is lent has no fields, so its four parts are reached by shifts, here alone.
 ghost use Rattle.std.specs.Prelude.{◌≡◌, ℕ, ◌/◌, ◌<◌, length};
 ghost use Rattle.ranking.specs.Table.{entry, Put};
 

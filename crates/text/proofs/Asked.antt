@@ -1,5 +1,6 @@
 -- The forms of the lines that can be read, put together from words and numbers.
-use Rattle.std.proofs.Common.{◌≡◌, ℕ, ◌+◌, ◌-◌, ◌<◌, max, ◌⊎◌, List, [], ◌∷◌, length, take, drop, codes, subst, inl, inr}
+use Rattle.std.proofs.Common.{◌≡◌, ℕ, ◌+◌, ◌-◌, ◌<◌, max, ◌⊎◌, List, [], ◌∷◌, length, take, drop, codes, Ok, Err, Result, MatchResult, subst, inl, inr}
+use Rattle.std.specs.Result.{IsErrAnd}
 use Rattle.std.proofs.lemmas.List.{take_rest}
 use Rattle.wire.specs.declared.call.Call.TheVariants.{Move, Back, Who, CanForce}
 use Rattle.text.specs.declared.reading.Line.TheVariants as line
@@ -31,6 +32,14 @@ module _ (word bytes : List ℕ) (p : ℕ) (a : Agree word bytes p) where
   -- the word is there, and a number behind it
   pub a_number : p ≡ length word → (n : ℕ) → Decimal (take (length bytes - p) (drop p bytes)) n → Numbered word n bytes
   a_number whole n d = found_behind word bytes p a whole (λ cs. Decimal cs n) (subst (λ cs. Decimal cs n) (take_rest bytes p) d)
+
+  -- so what is read behind the word tells what is read of the line
+  pub behind : p ≡ length word → (Q : ℕ → ℕ → Type 0) → ((q place : ℕ) → Q q place → place ≡ p + q) → (number read : Result ℕ ℕ) →
+      MatchResult number (Decimal (take (length bytes - p) (drop p bytes))) (Stops SomeDecimal (take (length bytes - p) (drop p bytes))) →
+      MatchResult number (λ n. read ≡ Ok n) (λ q. IsErrAnd read (Q q)) → MatchResult read (λ n. Numbered word n bytes) (Stops (SomeNumbered word) bytes)
+  behind whole Q on (Ok n) read is told = rw told (a_number whole n is)
+  behind whole Q on (Err q) (Ok n) is told = absurd told
+  behind whole Q on (Err q) (Err place) is told = rw (on q place told) (no_number whole q is)
 
 -- the lines that can be read, one form after the other
 abbrev Forms : List ℕ → Type 0

@@ -2,6 +2,7 @@ pub mod Added
 mod Again
 mod Asked
 mod Columns
+mod Fronts
+mod Marked
 mod Numbers
-mod Pairs
 mod Words

@@ -4,12 +4,10 @@
 mod drawing;
 mod laws;
 mod reading;
-mod writing;
 
 pub use drawing::{write_board, write_outcome};
 pub use laws::{lines_are_read_back, lines_ask_one_thing, rows_are_laid_out};
 pub use reading::{Line, read_line};
-pub use writing::{write_answer, write_line, write_refusal};
 
 #[cfg(test)]
 mod tests {
@@ -75,8 +73,7 @@ mod tests {
     }
 
     fn add_line(text: &mut String, line: Line) -> fmt::Result {
-        write_line(text, line)?;
-        text.write_str("; ")
+        Ok(write!(text, "{line}; ")?)
     }
 
     fn add_answers(text: &mut String) -> fmt::Result {
@@ -88,7 +85,6 @@ mod tests {
     }
 
     fn add_answer(text: &mut String, answer: Answer<&[u8]>) -> fmt::Result {
-        write_answer(text, answer)?;
-        text.write_str("; ")
+        Ok(write!(text, "{answer}; ")?)
     }
 }

@@ -1,11 +1,12 @@
 // Reads a line of text: what it asks for, or where it ceases to be a line that can be read.
-ghost use Rattle.std.specs.Prelude.{◌≡◌, ℕ, ◌≤◌, true, List, codes, MatchResult};
+ghost use Rattle.std.specs.Prelude.{◌≡◌, ℕ, ◌≤◌, true, List, Some, codes, MatchResult};
 ghost use Rattle.std.specs.Option.{SomeIff};
 ghost use Rattle.std.specs.Char.{is_ascii_digit};
-ghost use Rattle.text.specs.Lines.{value_with_digit, Decimal, SomeDecimal, Word, Numbered, SomeNumbered, Says, SomeWord};
+ghost use Rattle.text.specs.Lines.{value_with_digit, Decimal, SomeDecimal, Word, Numbered, SomeNumbered, Says, SomeWord, asked_by};
 ghost use Rattle.text.specs.Places.{Agree, Stops};
 ghost use Rattle.text.specs.Readings.{Reads};
 
+use std::fmt;
 use wire::Call;
 
 // What a line asks for: a new board of this size, or a call on the board there is.
@@ -15,7 +16,23 @@ pub enum Line {
     Call(Call),
 }
 
-// What the line asks for, or the place of its first byte that does not fit.
+// The line that asks for this, without its end.
+impl fmt::Display for Line {
+    ghost output = { λ line. Some (asked_by line) };
+
+    fn fmt<W: fmt::Write>(&self, f: &mut fmt::Formatter<W>) -> fmt::Result {
+        match *self {
+            Line::Board(n) => write!(f, "board {n}"),
+            Line::Call(Call::Move(cell)) => write!(f, "move {cell}"),
+            Line::Call(Call::Back) => f.write_str("back"),
+            Line::Call(Call::Who) => f.write_str("who"),
+            Line::Call(Call::CanForce) => f.write_str("can force"),
+        }
+    }
+}
+
+// What the line asks for, or the place of its first byte that does not fit. How far the line goes along with each form is kept for
+// the end, and so each is a match, and no chain of `or_else` in which a place would be handed on from form to form.
 pub fn read_line(line: &[u8]) -> Result<Line, usize>
     ensures { Reads line.now result }
 {
@@ -41,10 +58,7 @@ fn number_after(word: &[u8], line: &[u8]) -> Result<u16, usize>
     if same < word.len() {
         return Err(same);
     }
-    match number(&line[same..]) {
-        Ok(n) => Ok(n),
-        Err(place) => Err(same + place),
-    }
+    number(&line[same..]).map_err(|place| same + place)
 }
 
 // The call that is a word alone, or the place of the first byte that does not fit.
@@ -69,11 +83,7 @@ fn read_word(line: &[u8]) -> Result<Call, usize>
 fn agree(word: &[u8], line: &[u8]) -> usize
     ensures { Agree word.now line.now result }
 {
-    let mut same = 0;
-    while same < word.len() && same < line.len() && word[same] == line[same] {
-        same += 1;
-    }
-    same
+    word.iter().zip(line).take_while(|(a, b)| a == b).count()
 }
 
 // Whether the line is the word, or else how far it goes along with it.
@@ -104,10 +114,7 @@ fn number(bytes: &[u8]) -> Result<u16, usize>
 {
     let mut value = 0;
     for (at, byte) in bytes.iter().enumerate() {
-        let Some(more) = with_digit(value, *byte) else {
-            return Err(at);
-        };
-        value = more;
+        value = with_digit(value, *byte).ok_or(at)?;
     }
     if bytes.is_empty() {
         return Err(0);

@@ -1,10 +1,9 @@
 -- The answer on a position that moves lead to, from what the search tells of its end.
-use Rattle.std.proofs.Common.{◌≡◌, ℕ, ◌<◌, true, false, List, length, get_or, sym, ap, ◌∙◌, subst, inl, inr}
+use Rattle.std.proofs.Common.{◌≡◌, ℕ, Some, List, length, get_or, sym, ap, ◌∙◌, subst, inl, inr}
 use Rattle.hexboard.specs.Board.{Board, Connects, other}
 use Rattle.groups.specs.Meaning.{Open}
 use Rattle.groups.specs.Moves.{board_of, Legal, Kept}
 use Rattle.groups.proofs.Positions.{board_good}
-use Rattle.ranking.specs.Sets.{bit}
 use Rattle.theorems.proofs.Stones.{Side, other_side}
 use Rattle.endgame.specs.declared.links.Links.{Links}
 use Rattle.links.specs.declared.grouped.Grouped.{Grouped}
@@ -12,7 +11,7 @@ use Rattle.links.specs.Cells.{zeros_from, Lists}
 use Rattle.endgame.specs.Ends.{Numbered}
 use Rattle.links.specs.Prepared.{Prepared}
 use Rattle.links.proofs.Numbering.{free_numbered}
-use Rattle.endgame.specs.declared.search.Found.{Found}
+use Rattle.endgame.specs.declared.search.Found.TheVariants.{Won, Lost}
 use Rattle.verdict.specs.declared.verdict.Verdict.TheVariants.{Yes, No}
 use Rattle.endgame.specs.Ends.{Ending}
 use Rattle.endgame.specs.Searched.{Looked}
@@ -24,9 +23,8 @@ apart : (b : Board) → Open b → (t : ℕ) → Side t → Connects b t → ⊥
 apart b not_yet t (inl e) c = not_yet.0 (subst (Connects b) e c)
 apart b not_yet t (inr e) c = not_yet.1 (subst (Connects b) e c)
 
-module _ (g : Grouped) (s : ℕ) {cells : List ℕ} {mine theirs : Links} {f : Found} (side : Side s) (lists : Lists g.stones.now cells)
-    (own : Prepared g.size.n s g.stones.now g.parents.now g.borders.now cells mine) (others : Prepared g.size.n (other s) g.stones.now g.parents.now g.borders.now cells theirs)
-    (looked : Looked (length cells) mine theirs f) where
+module _ (g : Grouped) (s : ℕ) {cells : List ℕ} {mine theirs : Links} (side : Side s) (lists : Lists g.stones.now cells)
+    (own : Prepared g.size.n s g.stones.now g.parents.now g.borders.now cells mine) (others : Prepared g.size.n (other s) g.stones.now g.parents.now g.borders.now cells theirs) where
   end_of : (ms : List ℕ) → Legal g.size.n ms → g.stones.now ≡ (board_of g.size.n ms).cells → Kept g.size.n ms g.parents.now g.borders.now → Open (board_of g.size.n ms) →
       Ending (length cells) (board_of g.size.n ms) cells s mine theirs
   end_of ms legal is kept not_yet =
@@ -35,10 +33,10 @@ module _ (g : Grouped) (s : ℕ) {cells : List ℕ} {mine theirs : Links} {f : F
       ending (board_good g.size.n ms g.size.some) side num (own ms legal is kept num) (others ms legal is kept num) (apart b not_yet s side) (apart b not_yet (other s) (other_side s side))
 
   -- the search says no
-  pub judged_no : f.won ≡ false → Judges g.size.n s g.stones.now g.parents.now g.borders.now No
-  judged_no lost ms legal is kept not_yet = let end = end_of ms legal is kept not_yet in not_forced end (looked (board_of g.size.n ms) cells s end) lost
+  pub judged_no : (carrier : ℕ) → Looked (length cells) mine theirs (Lost carrier) → Judges g.size.n s g.stones.now g.parents.now g.borders.now No
+  judged_no carrier looked ms legal is kept not_yet = let end = end_of ms legal is kept not_yet in not_forced carrier end (looked (board_of g.size.n ms) cells s end)
 
   -- or it says yes, and names a move
-  pub judged_yes : f.won ≡ true → 0 < f.step → (k : ℕ) → bit k f.step ≡ 1 → Judges g.size.n s g.stones.now g.parents.now g.borders.now (Yes (get_or cells k 0))
-  judged_yes won named k h ms legal is kept not_yet =
-      let end = end_of ms legal is kept not_yet in forced_by_move end (looked (board_of g.size.n ms) cells s end) won named k h
+  pub judged_yes : (carrier k : ℕ) → Looked (length cells) mine theirs (Won carrier (Some k)) → Judges g.size.n s g.stones.now g.parents.now g.borders.now (Yes (get_or cells k 0))
+  judged_yes carrier k looked ms legal is kept not_yet =
+      let end = end_of ms legal is kept not_yet in forced_by_move carrier k end (looked (board_of g.size.n ms) cells s end)

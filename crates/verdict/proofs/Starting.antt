@@ -1,5 +1,5 @@
 -- The beginning of an end, with all its cells free: what the search tells there is so of the board itself.
-use Rattle.std.proofs.Common.{◌≡◌, ℕ, zero, suc, ◌+◌, ◌-◌, ◌*◌, ◌/◌, ◌^◌, ◌<◌, ◌≤◌, true, false, eqb, ◌⊎◌, List, length, get_or, sym, refl, ap, ◌∙◌, subst, inl, inr, ⊎_elim, mul-le-mul, pow-suc, arith, pow_pos}
+use Rattle.std.proofs.Common.{◌≡◌, ℕ, zero, suc, ◌+◌, ◌-◌, ◌*◌, ◌/◌, ◌^◌, ◌<◌, ◌≤◌, Some, eqb, ◌⊎◌, List, length, get_or, sym, refl, ◌∙◌, subst, inl, inr, ⊎_elim, mul-le-mul, pow-suc, arith, pow_pos}
 use Rattle.std.proofs.lemmas.Bool.{cases_lt, eq-eqb, ne_eqb}
 use Rattle.std.proofs.lemmas.Bool.Decides.{nat_tests}
 use Rattle.hexboard.specs.Board.{pick, Board, at, Connects, put, other}
@@ -18,9 +18,9 @@ use Rattle.endgame.specs.Ends.{Numbered}
 use Rattle.endgame.specs.Floods.{Joins}
 use Rattle.endgame.specs.Linked.{Linked}
 use Rattle.endgame.specs.declared.search.Found.{Found}
+use Rattle.endgame.specs.declared.search.Found.TheVariants.{Won, Lost}
 use Rattle.endgame.specs.Ends.{mark, Stands, Node, Ending, Sound, unknown, Told, Tells}
 use Rattle.endgame.specs.Searched.{Looked}
-use Rattle.links.proofs.Gathered.{only_bit}
 use Rattle.verdict.specs.Verdicts.{bytes_of_table}
 use Rattle.endgame.proofs.Carried.{mark_empty, mark_other, forced_by}
 use Rattle.endgame.proofs.Law.{describes}
@@ -95,24 +95,21 @@ ending {b} {es} {s} {mine} {theirs} good side n own others apart apart-too = rec
 }
 
 -- The search says that the side to move loses: it cannot force.
-pub not_forced : {e : ℕ} {b : Board} {es : List ℕ} {s : ℕ} {mine theirs : Links} {f : Found} → Ending e b es s mine theirs → Told b es s 0 0 (2 ^ e - 1) f →
-    f.won ≡ false → Forces s b s → ⊥
-not_forced {b = b} {es = es} {s = s} {f = f} end told lost can =
+pub not_forced : {e : ℕ} {b : Board} {es : List ℕ} {s : ℕ} {mine theirs : Links} (carrier : ℕ) → Ending e b es s mine theirs → Told b es s 0 0 (2 ^ e - 1) (Lost carrier) →
+    Forces s b s → ⊥
+not_forced {b = b} {s = s} carrier end told can =
     let back : other (other s) ≡ s = omega (arith, end.side) in
     not_both s can (other s) (against_other s end.side) end.good
-    (subst (Forces (other s) b) back (whole end.numbered (other s) f.carrier (other_side s end.side) (told.loses lost)))
+    (subst (Forces (other s) b) back (whole end.numbered (other s) carrier (other_side s end.side) told))
 
 -- It names a move: that is to an empty cell, and then the side can force.
-pub forced_by_move : {e : ℕ} {b : Board} {es : List ℕ} {s : ℕ} {mine theirs : Links} {f : Found} → Ending e b es s mine theirs → Told b es s 0 0 (2 ^ e - 1) f →
-    f.won ≡ true → 0 < f.step → (k : ℕ) → bit k f.step ≡ 1 →
-    (get_or es k 0 < length b.cells) × (at b (get_or es k 0) ≡ 0) × Forces s (put b s (get_or es k 0)) (other s)
-forced_by_move {e} {b} {es} {s} {f = f} end told won some k h =
-    let step = told.moves won some in
-    let l = cell_below e step.cell (2 ^ e - 1) (node_first e).free_fits step.of in
-    let same : k ≡ step.cell = only_bit step.cell k (sym (ap (bit k) step.is) ∙ h) in
-    let inside : step.cell < length es = omega (arith, end.many) in
-    subst (λ j. (get_or es j 0 < length b.cells) × (at b (get_or es j 0) ≡ 0) × Forces s (put b s (get_or es j 0)) (other s)) (sym same)
-    (end.numbered.inside step.cell inside, end.numbered.empty step.cell inside, after_step end.numbered s step.cell step.carrier end.side inside step.stands)
+pub forced_by_move : {e : ℕ} {b : Board} {es : List ℕ} {s : ℕ} {mine theirs : Links} (carrier k : ℕ) → Ending e b es s mine theirs →
+    Told b es s 0 0 (2 ^ e - 1) (Won carrier (Some k)) → (get_or es k 0 < length b.cells) × (at b (get_or es k 0) ≡ 0) × Forces s (put b s (get_or es k 0)) (other s)
+forced_by_move {e} {es = es} {s = s} carrier k end told =
+    let step = told.1 in
+    let l = cell_below e k (2 ^ e - 1) (node_first e).free_fits step.of in
+    let inside : k < length es = omega (arith, end.many) in
+    (end.numbered.inside k inside, end.numbered.empty k inside, after_step end.numbered s k step.carrier end.side inside step.stands)
 
 -- The table has room for all positions of an end on a board n wide.
 total_9 : total 9 ≡ 6046

@@ -1,16 +1,16 @@
 // Whether a side to move can bring about that it connects, and by which move, in a position with few empty cells.
-ghost use Rattle.std.specs.Prelude.{◌≡◌, ◌-◌, ◌*◌, ◌^◌, ◌<◌, ◌≤◌, true, length};
+ghost use Rattle.std.specs.Prelude.{◌≡◌, ◌-◌, ◌*◌, ◌^◌, ◌<◌, ◌≤◌, length};
 ghost use Rattle.hexboard.specs.Board.{empties};
 ghost use Rattle.hexboard.specs.Sides.{number};
-ghost use Rattle.ranking.specs.Sets.{Within};
 ghost use Rattle.ranking.specs.Positions.{total};
 ghost use Rattle.verdict.specs.Verdicts.{bytes_of_table, Judges};
+ghost use Rattle.endgame.specs.Findings.{StepsInto, NamesStep};
 ghost use Rattle.endgame.specs.Searched.{Looked};
 
 use endgame::{Found, Links, Position, solve};
 use hexboard::{Side, Size};
 use links::Grouped;
-use ranking::{Ranking, lowest, one};
+use ranking::{Ranking, one};
 
 // Yes, by a move to this cell; no; or that too many cells are empty to look through the end. None of the three is an error or the
 // lack of an answer, so this is no Result and no Option.
@@ -43,18 +43,22 @@ pub fn can_force(position: &Grouped, side: Side, table: &mut [u8]) -> Verdict
     let ranking = Ranking::new(cells.len() as u32);
     // No more of the table is cleared than the positions take, four to a byte.
     let bytes = ranking.places().div_ceil(4);
-    let found = look_through(&ranking, &mut table[..bytes], &mine, &theirs);
-    if found.won {
-        return Verdict::Yes(cells[lowest(found.step) as usize]);
+    match look_through(&ranking, &mut table[..bytes], &mine, &theirs) {
+        Found::Won {
+            step: Some(cell),
+            ..
+        } => Verdict::Yes(cells[cell as usize]),
+        // No win is known without its step, since the table said nothing before.
+        Found::Won { step: None, .. } => unreachable!(),
+        Found::Lost { .. } => Verdict::No,
     }
-    Verdict::No
 }
 
 // Who wins from the beginning of the end, with all its cells free.
 fn look_through(ranking: &Ranking, table: &mut [u8], mine: &Links, theirs: &Links) -> Found
     requires { total ranking.now.cells ≤ 4 * length table.old }
-    ensures stepped { Within result.step (2 ^ ranking.now.cells - 1) }
-    ensures named { result.won ≡ true → 0 < result.step }
+    ensures stepped { StepsInto result (2 ^ ranking.now.cells - 1) }
+    ensures named { NamesStep result }
     ensures told { Looked ranking.now.cells mine.now theirs.now result }
 {
     ranking::clear(table);

@@ -1,146 +1,148 @@
-use Rattle.std.proofs.Common.{◌≡◌, ℕ, ◌-◌, ◌^◌, ◌≤◌, true, false, sym, ap, ◌∙◌, subst, le_trans, arith, pow_pos, pow_mono}
-use lib.Bits.{bit_or}
-use Rattle.std.proofs.lemmas.Bool.{both_ways}
-use Rattle.ranking.specs.Sets.{Within, One}
-use Rattle.ranking.specs.Table.{Put}
-use Rattle.ranking.proofs.Bits.{bit_none, within_below, cell_le, and_less, left_out}
+use Rattle.std.proofs.Common.{◌≡◌, ℕ, ◌-◌, ◌^◌, ◌<◌, ◌≤◌, sym, ap, ◌∙◌, subst, le_trans, arith, pow_pos, pow_mono}
+use Rattle.ranking.specs.Sets.{bit, Within}
+use Rattle.ranking.proofs.Bits.{within_below, cell_le, cell_below, and_less, left_out}
+use Rattle.ranking.proofs.Members.{members_rest, members_empty}
 use Rattle.ranking.proofs.Ranks.{place_below}
-use Rattle.endgame.specs.Ends.{Node, Tells, moved}
+use Rattle.endgame.specs.Ends.{Tells, moved}
+use Rattle.endgame.specs.Winners.{entry_of}
+use Rattle.endgame.specs.declared.search.Found.{Found}
 use Rattle.endgame.proofs.Nodes.{node_after}
-use Rattle.endgame.proofs.Searching.{Searching, searching_none, searching_cut, searching_won, searching_lost, searching_all, told_at_once, told_known}
+use Rattle.endgame.proofs.Searching.{Searching, searching_none, searching_cut, searching_won, searching_lost, searching_all, won_within, told_at_once, told_lost}
 use Rattle.endgame.proofs.Threats.{one_within}
 use Rattle.endgame.proofs.search.+solve.Goals as goal
-use Rattle.endgame.proofs.search.+solve.Goals.{After-after, After-solve-next, then-found, else-found}
+use Rattle.endgame.proofs.search.+solve.Goals.{In-Some, In_default, After-best-step, After-solve}
 
-pub returns-then-own-gt0 : goal.returns-then-own-gt0
-returns-then-own-gt0 t c =
-    let k = c.lowest.result in
-    let own = c.completions-own.ensures in
-    rw c.one-step.ensures
-    (record {
-      within = one_within k c.args.at.free (own.inside k c.lowest.ensures.within);
-      stepped = one_within k c.args.at.free (own.inside k c.lowest.ensures.within);
-      named = λ _ _. pow_pos k;
-      tells = told_at_once c.args.ranking.now.cells c.args.mine.now c.args.theirs.now c.args.at c.args.table.now k c.requires.node own c.lowest.ensures.within;
-    })
+-- a cell that connects at once is the first of those
+first : (t : ℕ) (c : In-Some t) → (bit c.in-Some.step c.completions.result ≡ 1) × (c.in-Some.step < 64)
+first t c = let (inside, small, _) = members_rest c.completions.result c.in-Some.step c.next.new.self (omega arith) (sym c.of.ensures ∙ c.in-Some.ensures.steps) in (inside, small)
+
+-- there is none
+none : (t : ℕ) (c : In_default t) → c.completions.result ≡ 0
+none t c = members_empty c.completions.result (omega arith) (sym c.of.ensures ∙ c.in_default.ensures.steps.0)
+
+pub one-requires : goal.one-requires
+one-requires t c = (first t (goal.at.one-requires t c).In-Some).1
+
+pub returns-in-Some-clause-within : goal.returns-in-Some-clause-within
+returns-in-Some-clause-within t c =
+    let at = (goal.at.returns-in-Some-clause-within t c).In-Some in
+    rw c.one.ensures (one_within c.in-Some.step c.args.at.free (c.completions.ensures.inside c.in-Some.step (first t at).0))
+
+pub returns-in-Some-clause-stepped : goal.returns-in-Some-clause-stepped
+returns-in-Some-clause-stepped t c = c.completions.ensures.inside c.in-Some.step (first t (goal.at.returns-in-Some-clause-stepped t c).In-Some).0
+
+pub returns-in-Some-clause-tells : goal.returns-in-Some-clause-tells
+returns-in-Some-clause-tells t c =
+    let at = (goal.at.returns-in-Some-clause-tells t c).In-Some in
+    rw c.one.ensures
+    (told_at_once c.args.ranking.now.cells c.args.mine.now c.args.theirs.now c.args.at c.args.table.now c.in-Some.step c.requires.node c.completions.ensures (first t at).0)
 
 -- against two threats nothing has to be tried
-pub returns-then-cut-eq0 : goal.returns-then-cut-eq0
-returns-then-cut-eq0 t c =
+pub returns-then-cut-eq0-clause-tells : goal.returns-then-cut-eq0-clause-tells
+returns-then-cut-eq0-clause-tells t c =
     let e = c.args.ranking.now.cells in
-    let begun = searching_none e c.args.mine.now c.args.theirs.now c.args.at c.args.table.now c.requires.node c.completions.ensures c.replies-cut.ensures in
-    record {
-      within = begun.within;
-      stepped = begun.stepped;
-      named = λ _. begun.named;
-      tells = searching_lost c.requires.node
-          (subst (λ m. Searching e c.args.mine.now c.args.theirs.now c.args.at c.args.table.now c.args.table.now m (record { won = false; carrier = c.replies-cut.result.lost; step = 0 })) c.if-cut-eq0.true begun);
-    }
+    let mine = c.args.mine.now in
+    let theirs = c.args.theirs.now in
+    searching_lost c.requires.node
+    (subst (λ m. Searching e mine theirs c.args.at c.args.table.now c.args.table.now m c.replies-cut.result.lost) c.if-cut-eq0.true
+    (searching_none e mine theirs c.args.at c.args.table.now c.requires.node c.completions-2.ensures c.replies-cut.ensures))
 
-pub get-known-requires : goal.get-known-requires
-get-known-requires t c =
+pub get-requires : goal.get-requires
+get-requires t c =
     omega (arith, c.place-place.ensures, place_below c.args.ranking.now.cells c.args.at.mine c.args.at.theirs c.requires.node.position)
 
-pub returns-then-known-gt0 : goal.returns-then-known-gt0
-returns-then-known-gt0 t c =
-    let is = rw c.place-place.ensures at c.get-known.ensures in
-    record {
-      within = λ k h. h;
-      stepped = λ k h. absurd (omega (arith, bit_none k));
-      named = λ z _. absurd (omega arith);
-      tells = told_known c.args.ranking.now.cells c.args.mine.now c.args.theirs.now c.args.at c.args.table.now c.get-known.result c.requires.node is c.if-known-gt0.true;
-    }
-
-pub replies-cut-requires : goal.replies-cut-requires
-replies-cut-requires t c = c.completions.ensures.inside
+pub returns-in-Ok-Other-clause-tells : goal.returns-in-Ok-Other-clause-tells
+returns-in-Ok-Other-clause-tells t c = told_lost c.args.ranking.now.cells c.args.mine.now c.args.theirs.now c.args.at c.args.table.now c.requires.node
+    (sym (rw c.place-place.ensures at c.get.ensures) ∙ c.in-Ok-Other.ensures ∙ ap entry_of c.in-Ok-Other.field-0-is)
 
 pub loop-must-init : goal.loop-must-init
 loop-must-init t c =
-    searching_none c.args.ranking.now.cells c.args.mine.now c.args.theirs.now c.args.at c.args.table.now c.requires.node c.completions.ensures c.replies-cut.ensures
+    searching_none c.args.ranking.now.cells c.args.mine.now c.args.theirs.now c.args.at c.args.table.now c.requires.node c.completions-2.ensures c.replies-cut.ensures
 
-pub best-step-requires : goal.best-step-requires
-best-step-requires t c =
+pub best-step-requires-clause-fits : goal.best-step-requires-clause-fits
+best-step-requires-clause-fits t c =
     let e = c.args.ranking.now.cells in
-    record {
-      some = c.loop-must-test.true;
-      fits = le_trans (within_below e c.loop-must.must c.args.at.free c.loop-must.invariant.inside c.requires.node.free_fits) (pow_mono c.args.ranking.now.few);
-    }
+    le_trans (within_below e c.loop-must.must c.args.at.free c.loop-must.invariant.inside c.requires.node.free_fits) (pow_mono c.args.ranking.now.few)
 
-pub after-requires : goal.after-requires
-after-requires t c =
-    let e = c.args.ranking.now.cells in
-    let step = c.best-step.ensures in
-    let small = cell_le step.cell c.args.at.free (c.loop-must.invariant.inside step.cell step.of) in
-    let room : 2 ^ e ≤ 2 ^ 16 = pow_mono c.args.ranking.now.few in
-    omega (arith, step.is, c.requires.node.position.mine_fits, c.requires.node.free_fits)
+-- the step is a free cell
+module _ (t : ℕ) (c : After-best-step t) where
+  free : bit c.best-step.result c.args.at.free ≡ 1
+  free = c.loop-must.invariant.inside c.best-step.result c.best-step.ensures
 
--- the position after the step
-same_after : (t : ℕ) (c : After-after t) → c.after.result ≡ moved c.args.at (2 ^ c.best-step.ensures.cell)
-same_after t c = c.after.ensures ∙ ap (moved c.args.at) c.best-step.ensures.is
+  small : c.best-step.result < 16
+  small = le_trans (cell_below c.args.ranking.now.cells c.best-step.result c.args.at.free c.requires.node.free_fits free) c.args.ranking.now.few
 
-pub solve-next-requires : goal.solve-next-requires
-solve-next-requires t c =
-    let step = c.best-step.ensures in
-    let here = c.loop-must.invariant.inside step.cell step.of in
-    let small = cell_le step.cell c.args.at.free here in
-    let less = ap (λ p. p.free) (same_after t c) in (
-      omega (arith, c.decreases, pow_pos step.cell),
+pub after-requires-clause-fits : goal.after-requires-clause-fits
+after-requires-clause-fits t c =
+    let room : 2 ^ c.args.ranking.now.cells ≤ 2 ^ 16 = pow_mono c.args.ranking.now.few in
+    (omega (arith, c.requires.node.position.mine_fits), small t (goal.at.after-requires-clause-fits t c).After-best-step)
+
+pub after-requires-clause-free : goal.after-requires-clause-free
+after-requires-clause-free t c = cell_le c.best-step.result c.args.at.free (free t (goal.at.after-requires-clause-free t c).After-best-step)
+
+pub solve-requires : goal.solve-requires
+solve-requires t c =
+    let at = (goal.at.solve-requires t c).After-best-step in
+    let here = free t at in
+    let room = cell_le c.best-step.result c.args.at.free here in
+    let less = ap (λ p. p.free) c.after.ensures in (
+      omega (arith, c.decreases, pow_pos c.best-step.result),
       (
-        subst (λ p. Node c.args.ranking.now.cells p.mine p.theirs p.free) (sym (same_after t c)) (node_after c.requires.node step.cell here),
+        rw c.after.ensures (node_after c.requires.node c.best-step.result here),
         omega (arith, c.requires.room, c.loop-must.auto.table),
       ),
     )
 
 -- what the search says of the position after the step
-module _ (t : ℕ) (c : After-solve-next t) where
-  abbrev step : One c.loop-must.must c.best-step.result
-  step = c.best-step.ensures
+module _ (t : ℕ) (c : After-solve t) where
+  within-then : (carrier : ℕ) → Within carrier c.after.result.free → Within carrier (c.args.at.free - 2 ^ c.best-step.result)
+  within-then carrier = subst (λ p. Within carrier p.free) c.after.ensures
 
-  to : c.after.result ≡ moved c.args.at (2 ^ step.cell)
-  to = c.after.ensures ∙ ap (moved c.args.at) step.is
-
-  within-then : Within c.solve-next.result.carrier (c.args.at.free - 2 ^ step.cell)
-  within-then = subst (λ p. Within c.solve-next.result.carrier p.free) to c.solve-next.ensures.within
-
-  tells-then : Tells c.args.ranking.now.cells c.args.theirs.now c.args.mine.now (moved c.args.at (2 ^ step.cell)) c.loop-must.table c.solve-next.new.table c.solve-next.result
-  tells-then = subst (λ p. Tells c.args.ranking.now.cells c.args.theirs.now c.args.mine.now p c.loop-must.table c.solve-next.new.table c.solve-next.result) to c.solve-next.ensures.tells
+  tells-then : {found : Found} → Tells c.args.ranking.now.cells c.args.theirs.now c.args.mine.now c.after.result c.loop-must.table c.solve.new.table found →
+      Tells c.args.ranking.now.cells c.args.theirs.now c.args.mine.now (moved c.args.at (2 ^ c.best-step.result)) c.loop-must.table c.solve.new.table found
+  tells-then h = rw c.after.ensures at h
 
 -- the step is not in the carrier of a win after it
-pub loop-must-smaller-then-next : goal.loop-must-smaller-then-next
-loop-must-smaller-then-next t c =
-    let at = (goal.at.loop-must-smaller-then-next t c).After-solve-next in
-    let k = c.best-step.ensures.cell in
-    let here = c.loop-must.invariant.inside k c.best-step.ensures.of in
-    and_less k c.loop-must.must c.solve-next.result.carrier c.best-step.ensures.of
-    (left_out k c.solve-next.result.carrier c.args.at.free here (within-then t at))
-
-pub loop-must-preserved-then-next : goal.loop-must-preserved-then-next
-loop-must-preserved-then-next t c =
-    let at = (goal.at.loop-must-preserved-then-next t c).After-solve-next in
-    searching_cut c.requires.node c.completions-own.ensures (omega arith) c.loop-must.invariant c.best-step.ensures.cell c.best-step.ensures.of (within-then t at) (tells-then t at) c.if-next.true
+pub loop-must-smaller : goal.loop-must-smaller
+loop-must-smaller t c =
+    let at = (goal.at.loop-must-smaller t c).After-solve in
+    and_less c.best-step.result c.loop-must.must c.in-Won.carrier c.best-step.ensures
+    (left_out c.best-step.result c.in-Won.carrier c.args.at.free (free t (goal.at.loop-must-smaller t c).After-best-step) (within-then t at c.in-Won.carrier c.in-Won.ensures.within))
 
 pub loop-must-preserved : goal.loop-must-preserved
 loop-must-preserved t c =
-    let at = (goal.at.loop-must-preserved t c).After-solve-next in
-    subst (λ z. Searching c.args.ranking.now.cells c.args.mine.now c.args.theirs.now c.args.at c.args.table.now c.solve-next.new.table 0 (record { won = true; carrier = bit_or c.solve-next.result.carrier z; step = z }))
-    (sym c.best-step.ensures.is)
-    (searching_won c.requires.node c.completions-own.ensures (omega arith) c.loop-must.invariant c.best-step.ensures.cell c.best-step.ensures.of (within-then t at) (tells-then t at) c.if-next.false)
+    let at = (goal.at.loop-must-preserved t c).After-solve in
+    searching_cut c.requires.node c.completions.ensures (none t (goal.at.loop-must-preserved t c).In_default) c.loop-must.invariant c.best-step.result c.best-step.ensures
+    (within-then t at c.in-Won.carrier c.in-Won.ensures.within) (tells-then t at c.in-Won.ensures.tells)
 
-pub put-requires : goal.put-requires
-put-requires t c = record {
-  inside = omega (arith, c.loop-must.auto.table, c.place-place.ensures, place_below c.args.ranking.now.cells c.args.at.mine c.args.at.theirs c.requires.node.position);
-  small = elim c.if-found.branch [ then-found w ↦ omega (arith, w.put-is) | else-found w ↦ omega (arith, w.put-is) ];
-}
+pub put-requires-clause-inside : goal.put-requires-clause-inside
+put-requires-clause-inside t c =
+    omega (arith, c.solve.auto.table, c.loop-must.auto.table, c.place-place.ensures, place_below c.args.ranking.now.cells c.args.at.mine c.args.at.theirs c.requires.node.position)
 
-pub returns : goal.returns
-returns t c =
+pub one-requires-in-Lost : goal.one-requires-in-Lost
+one-requires-in-Lost t c = omega (arith, small t (goal.at.one-requires-in-Lost t c).After-best-step)
+
+pub returns-in-Lost-clause-within : goal.returns-in-Lost-clause-within
+returns-in-Lost-clause-within t c =
+    let at = (goal.at.returns-in-Lost-clause-within t c).After-solve in
+    rw c.one-in-Lost.ensures
+    (won_within c.requires.node c.completions.ensures (none t (goal.at.returns-in-Lost-clause-within t c).In_default) c.loop-must.invariant c.best-step.result c.best-step.ensures
+    c.in-Lost.carrier (within-then t at c.in-Lost.carrier c.in-Lost.ensures.within))
+
+pub returns-in-Lost-clause-tells : goal.returns-in-Lost-clause-tells
+returns-in-Lost-clause-tells t c =
+    let at = (goal.at.returns-in-Lost-clause-tells t c).After-solve in
+    rw c.one-in-Lost.ensures
+    (searching_won c.requires.node c.completions.ensures (none t (goal.at.returns-in-Lost-clause-tells t c).In_default) c.loop-must.invariant c.best-step.result c.best-step.ensures
+    c.put.new.table (within-then t at c.in-Lost.carrier c.in-Lost.ensures.within) (tells-then t at c.in-Lost.ensures.tells) (rw (c.place-place.ensures, c.into.ensures) at c.put.ensures))
+
+pub put-requires-2-clause-inside : goal.put-requires-2-clause-inside
+put-requires-2-clause-inside t c =
+    omega (arith, c.loop-must.auto.table, c.place-place.ensures, place_below c.args.ranking.now.cells c.args.at.mine c.args.at.theirs c.requires.node.position)
+
+pub returns-clause-tells : goal.returns-clause-tells
+returns-clause-tells t c =
     let nothing : c.loop-must.must ≡ 0 = omega arith in
-    let end = subst (λ m. Searching c.args.ranking.now.cells c.args.mine.now c.args.theirs.now c.args.at c.args.table.now c.loop-must.table m c.loop-must.found) nothing c.loop-must.invariant in
-    record {
-      within = end.within;
-      stepped = end.stepped;
-      named = λ _. end.named;
-      tells = searching_all c.requires.node end c.if-found.put c.put.new.table (subst (λ i. Put c.loop-must.table c.put.new.table i c.if-found.put) c.place-place.ensures c.put.ensures)
-          (λ h. elim c.if-found.branch [ then-found w ↦ w.put-is | else-found w ↦ absurd (both_ways c.loop-must.found.won w.if-found.false h) ])
-          (λ h. elim c.if-found.branch [ then-found w ↦ absurd (both_ways c.loop-must.found.won h w.if-found.true) | else-found w ↦ w.put-is ]);
-    }
+    searching_all c.requires.node
+    (subst (λ m. Searching c.args.ranking.now.cells c.args.mine.now c.args.theirs.now c.args.at c.args.table.now c.loop-must.table m c.loop-must.lost) nothing c.loop-must.invariant)
+    c.put-2.new.table (rw (c.place-place.ensures, c.into-2.ensures) at c.put-2.ensures)

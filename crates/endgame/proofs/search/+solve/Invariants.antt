@@ -5,7 +5,7 @@ abbrev pub decreases-solve : goal.decreases-solve
 decreases-solve l = l.at.free
 
 abbrev pub invariant-loop-must : goal.invariant-loop-must
-invariant-loop-must l = Searching l.ranking.cells l.mine l.theirs l.at l.initial.table l.table l.must l.found
+invariant-loop-must l = Searching l.ranking.cells l.mine l.theirs l.at l.initial.table l.table l.must l.lost
 
 abbrev pub decreases-loop-must : goal.decreases-loop-must
 decreases-loop-must l = l.must

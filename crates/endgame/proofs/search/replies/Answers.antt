@@ -1,15 +1,39 @@
-use Rattle.std.proofs.Common.{arith}
-use Rattle.ranking.proofs.Bits.{cell_le}
-use Rattle.endgame.proofs.Threats.{one_threat, two_threats}
+use Rattle.std.proofs.Common.{◌≡◌, ◌-◌, ◌^◌, ◌<◌, sym, ◌∙◌, arith}
+use Rattle.ranking.specs.Sets.{bit, members}
+use Rattle.ranking.proofs.Members.{members_rest}
+use Rattle.endgame.proofs.Threats.{no_threat, one_threat, two_threats}
 use Rattle.endgame.proofs.search.replies.Goals as goal
+use Rattle.endgame.proofs.search.replies.Goals.{In-Some, In-Some-next}
 
-pub overflow_sub-others : goal.overflow_sub-others
-overflow_sub-others c = omega (arith, c.one-threat.ensures, cell_le c.lowest.result c.args.threats c.lowest.ensures.within)
+-- the first threat, and what is left without it
+first : (c : In-Some) → (bit c.in-Some.threat c.args.threats ≡ 1) × (c.in-Some.threat < 64) × (c.next.new.self ≡ members (c.args.threats - 2 ^ c.in-Some.threat))
+first c = members_rest c.args.threats c.in-Some.threat c.next.new.self (omega arith) (sym c.of-cells.ensures ∙ c.in-Some.ensures.steps)
 
-pub returns-then-others-eq0 : goal.returns-then-others-eq0
-returns-then-others-eq0 c = rw c.one-threat.ensures (one_threat c.args.threats c.args.free c.lowest.result c.requires c.lowest.ensures.within)
+second : (c : In-Some-next) → (bit c.in-Some-next.another (c.args.threats - 2 ^ c.in-Some.threat) ≡ 1) × (c.in-Some-next.another < 64)
+second c =
+    let left = (first (goal.at.one-requires-2 c).In-Some).2 in
+    let (is, small, _) = members_rest (c.args.threats - 2 ^ c.in-Some.threat) c.in-Some-next.another c.next-2.new.self (omega arith) (sym left ∙ c.in-Some-next.ensures.steps) in (is, small)
+
+pub returns-in_default : goal.returns-in_default
+returns-in_default c = no_threat c.args.threats c.args.free
+
+pub one-requires : goal.one-requires
+one-requires c = (first (goal.at.one-requires c).In-Some).1
+
+pub one-requires-in_default-next : goal.one-requires-in_default-next
+one-requires-in_default-next c = (first (goal.at.one-requires-in_default-next c).In-Some).1
+
+pub returns-in_default-next : goal.returns-in_default-next
+returns-in_default-next c =
+    rw (c.one.ensures, c.one-in_default-next.ensures) (one_threat c.args.threats c.args.free c.in-Some.threat c.requires (first (goal.at.returns-in_default-next c).In-Some).0)
+
+pub one-requires-2 : goal.one-requires-2
+one-requires-2 c = (first (goal.at.one-requires-2 c).In-Some).1
+
+pub one-requires-3 : goal.one-requires-3
+one-requires-3 c = (second (goal.at.one-requires-3 c).In-Some-next).1
 
 pub returns : goal.returns
 returns c =
-    rw (c.one-threat.ensures, c.one.ensures)
-    (two_threats c.args.threats c.args.free c.lowest.result c.lowest-2.result c.lowest.ensures.within (rw c.one-threat.ensures at c.lowest-2.ensures.within))
+    rw (c.one-2.ensures, c.one-3.ensures)
+    (two_threats c.args.threats c.args.free c.in-Some.threat c.in-Some-next.another (first (goal.at.returns c).In-Some).0 (second (goal.at.returns c).In-Some-next).0)

@@ -1,6 +1,6 @@
 use Rattle.std.proofs.Common.{string_bytes, codes}
 use Rattle.text.proofs.Added.{made_if_ok, three_parts}
-use Rattle.text.proofs.drawing.write_row.Goals as goal
+use Rattle.text.proofs.drawing.Drawing.write_row.Goals as goal
 
 pub returns : goal.returns
 returns c =

@@ -1,6 +1,6 @@
 use lib.Bits.{bit_and}
 use Rattle.ranking.proofs.Bits.{in_and, and_in}
-use Rattle.endgame.proofs.floods.completions.Goals as goal
+use Rattle.endgame.proofs.links.Links.completions.Goals as goal
 
 pub returns : goal.returns
 returns c =
