@@ -8,7 +8,7 @@ ghost use Rattle.driver.specs.Served.{trimmed, answer_is_taken, first_served, Op
 use crate::failed::Failed;
 use crate::limits::Limits;
 use crate::served::Served;
-use session::{Desk, Reply, Unopened};
+use session::{Desk, Reply, Unopened, with_way};
 use std::alloc::Global;
 use std::fmt;
 use std::fmt::Write;
@@ -151,7 +151,7 @@ fn serve(limits: Limits, desk: &mut Desk, call: Call, out: &mut String) -> Resul
     } else {
         desk.serve(call)
     };
-    let answer = reply.answer(desk.way());
+    let answer = with_way(reply, desk.way());
     write!(out, "{answer}")?;
     Ok(served_by(reply))
 }
