@@ -28,7 +28,7 @@ A line that is refused is answered by 'refused R at P', and changes nothing:\n\
   5  the cell is not empty\n\
   6  there is no move to take back\n";
 
-// Only the first argument is looked at.
+// Only the first argument is looked at, and what is told of another is this program's own, so it reads its arguments itself.
 fn main(rt: HostRuntime) -> anyhow::Result<()> {
     match env::args(&rt)?.nth(1) {
         None => serve_input(&rt, LIMITS, &Answers, false),

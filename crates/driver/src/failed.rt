@@ -8,6 +8,7 @@ use thiserror::Error;
 #[error("there is no memory")]
 pub struct Failed;
 
+// What writing a text fails by, through `fmt`.
 impl From<fmt::Error> for Failed {
     fn from(_: fmt::Error) -> Self {
         Failed

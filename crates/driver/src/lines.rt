@@ -38,7 +38,8 @@ fn open(heap: Global, limits: Limits, n: u16) -> Result<Option<Desk>, Failed>
     }
 }
 
-// A line before the first board: only `board N` is served.
+// A line before the first board: only `board N` is served. There is no desk to call yet, and what is promised differs, so this and what it
+// calls stand apart from `next_line`. The allocator, the limits, the desk, the line and the text belong to five others, and are no struct.
 pub fn first_line(
     heap: Global,
     limits: Limits,
@@ -221,10 +222,5 @@ fn first_served(opened: &Option<Desk>) -> Served
 pub(crate) fn without_return(line: &[u8]) -> &[u8]
     ensures { result.now ≡ trimmed line.now }
 {
-    let len = line.len();
-    if len > 0 && line[len - 1] == b'\r' {
-        &line[0..len - 1]
-    } else {
-        line
-    }
+    line.strip_suffix(b"\r").unwrap_or(line)
 }

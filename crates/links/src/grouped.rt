@@ -36,7 +36,8 @@ impl Grouped<'_> {
         Some(cells)
     }
 
-    // What lies next to a cell in a direction: what the neighbour holds, and the root of its group.
+    // What lies next to a cell in a direction: what the neighbour holds, and the root of its group. It holds a byte here and no side, as
+    // what is gathered is defined by what a board holds.
     pub(crate) fn beside(&self, cell: u16, direction: u8) -> Option<(u8, u16)>
         ensures { result ≡ option_map (λ p. (at (board self.now) p, root (parents self.now) p)) (neighbour_of self.now.size.n cell direction) }
     {

@@ -91,7 +91,7 @@ impl Grouped<'_> {
 }
 
 // Puts the k-th empty cell into the set at a place; nothing where there is no such place. That k is below 64 is asked three times here
-// and is no type: each is called in one place, with a place of a list of 16.
+// and is no type: all is called from two loops over a list of 16.
 fn enter(sets: &mut [u64], place: u16, k: u32)
     requires { k < 64 }
     ensures { sets.new ≡ enter k place sets.old }
@@ -103,7 +103,7 @@ fn enter(sets: &mut [u64], place: u16, k: u32)
     }
 }
 
-// The set at a place; none where there is no such place.
+// The set at a place; none where there is no such place. One line of std, as `groups::touched` is for bytes.
 fn read(sets: &[u64], place: u16) -> u64
     ensures { result ≡ slice_index sets.now place }
 {

@@ -58,6 +58,7 @@ struct Asked {
     times: bool,
 }
 
+// The flag that an argument is. An Option and no FromStr: what is no flag is told by the program, under its own name.
 fn read_flag(argument: &str) -> Option<Flag>
     ensures { MatchOption result ((f : Flag) → argument.now ≢ written f) (λ f. argument.now ≡ written f) }
 {
@@ -137,11 +138,21 @@ pub fn serve_input<P: Printing>(
     for (number, line) in (1u64..).zip(BufReader::new(heap, rt.stdin())?.split(heap, b'\n')) {
         let line = line?;
         out.clear();
-        let start = Instant::now(rt)?;
+        // The clock is read only where times are told.
+        let start = if timed {
+            Some(Instant::now(rt)?)
+        } else {
+            None
+        };
         let served = answer_line(heap, limits, &mut desk, line.as_slice(), &mut out)?;
-        let took = start.elapsed(rt)?;
+        let took = match start {
+            Some(start) => Some(start.elapsed(rt)?),
+            None => None,
+        };
         let kind = kind_of(line.as_slice());
-        if let Some(kind) = kind {
+        if let Some(kind) = kind
+            && let Some(took) = took
+        {
             times.note(kind, took);
         }
         let line = Line {

@@ -11,7 +11,7 @@ use Rattle.history.specs.declared.game.Game.{Game}
 
 -- room on a board n wide for the searches and for the cells of a way
 abbrev pub Roomy : ℕ → ℕ → ℕ → Type 0
-Roomy n scratch way = (4 * (n * n) ≤ scratch) × (2 * (n * n) ≤ way) × (bytes_of_table n ≤ scratch)
+Roomy n scratch way = (4 * (n * n) ≤ scratch) × (way ≡ 2 * (n * n)) × (bytes_of_table n ≤ scratch)
 
 -- the moves that are in memory can be made
 abbrev pub Fair : Game → Memory → Type 0

@@ -18,6 +18,7 @@ pub(crate) fn show(reply: Reply, answer: &mut [u8]) -> usize
         }
         Reply::Refused(_) | Reply::Number(_) | Reply::Yes(_) | Reply::No | Reply::TooMany => {
             let written = wire::write_answer(with_way(reply, &[]), answer);
+            // Never 0: there is room, and a reply to a call has bytes, which the caller knows.
             written.unwrap_or(0)
         }
     }

@@ -15,7 +15,8 @@ use links::Grouped;
 use verdict::Verdict;
 use wire::{Call, Refusal};
 
-// Serves a call. `scratch` holds anything, before and after; a way is written to the front of `way`.
+// Serves a call. `scratch` holds anything, before and after; a way is written to the front of `way`. The parts of the memory come one by
+// one, as they go into `history`.
 pub fn serve(
     game: Game,
     call: Call,

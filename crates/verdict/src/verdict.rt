@@ -12,8 +12,8 @@ use hexboard::{Side, Size};
 use links::Grouped;
 use ranking::{Ranking, one};
 
-// Yes, by a move to this cell; no; or that too many cells are empty to look through the end. None of the three is an error or the
-// lack of an answer, so this is no Result and no Option.
+// Yes, by a move to this cell; no; or that too many cells are empty to look through the end. No is an answer, and
+// too many none that fails, so this is no Result; as an Option in an Option it would not say which of the two is missing.
 #[derive(Clone, Copy, PartialEq, Eq, Debug)]
 pub enum Verdict {
     Yes(u16),
