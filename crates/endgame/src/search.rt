@@ -74,18 +74,22 @@ fn replies(threats: u64, free: u64) -> Cut
     }
 }
 
-// Of the cells that must be tried, the first of those that are linked best for both sides together.
+// The cells that an end can have.
+const CELLS: u64 = 0xffff;
+
+// Of the cells that must be tried, the first of those that are linked best for both sides together. Only stones on cells of an end weigh.
 fn best(mine: &Links, theirs: &Links, at: Position, must: u64) -> u32
     requires some { 0 < must }
     requires fits { must < 2 ^ 16 }
-    requires laid { (at.mine < 2 ^ 16) × (at.theirs < 2 ^ 16) }
     ensures { bit result must ≡ 1 }
 {
+    let mine_laid = at.mine & CELLS;
+    let theirs_laid = at.theirs & CELLS;
     let mut best = lowest(must);
     let mut most = 0;
     for cell in Cells::of(must) {
-        let own = mine.weight(cell, at.mine, at.free);
-        let others = theirs.weight(cell, at.theirs, at.free);
+        let own = mine.weight(cell, mine_laid, at.free);
+        let others = theirs.weight(cell, theirs_laid, at.free);
         if own + others > most {
             most = own + others;
             best = cell;
