@@ -1,13 +1,8 @@
 -- What the parts of serving a line say, put together as what a line is answered by.
-use Rattle.std.proofs.Common.{◌≡◌, ℕ, List, ◌++◌, IfOk, Ok, Err, vec_items, codes, decimal, Result, ⊎_elim, ◌+◌, [], ◌∷◌, take, sym, ap, ◌∙◌}
+use Rattle.std.proofs.Common.{◌≡◌, ℕ, List, ◌++◌, IfOk, Ok, Err, codes, decimal, Result, ⊎_elim, ◌+◌, [], ◌∷◌, take, sym, ap, ◌∙◌}
 use Rattle.std.proofs.lemmas.List.{flat_map_more}
 use Rattle.std.specs.List.{flat_map}
 use Rattle.hexboard.specs.Games as games
-use Rattle.wire.specs.Formal.{asked}
-use Rattle.session.specs.Desks.{desk_game}
-use Rattle.session.specs.Replies.{replied}
-use Rattle.session.specs.declared.desk.Desk.{Desk}
-use Rattle.session.specs.declared.reply.Reply.{Reply}
 use Rattle.wire.specs.declared.call.Call.{Call}
 use Rattle.wire.specs.Answers.{line_of}
 use Rattle.text.specs.Lines.{Asks, Says}
@@ -37,11 +32,6 @@ called_next limits bytes call g h served before after says =
 pub made_more : {X Y : Type 0} {P Q : X → Type 0} (r : Result X Y) → ((x : X) → P x → Q x) → IfOk r P → IfOk r Q
 made_more (Ok x) f = f x
 made_more (Err y) f = λ _. tt
-
--- a right answer, told of another name for the desk and the reply
-pub right_again : (g : games.Game) (call : Call) (d e : Desk) (r s : Reply) → d ≡ e → r ≡ s →
-    games.Right g (asked call) (replied s (vec_items e.way)) (desk_game e) → games.Right g (asked call) (replied r (vec_items d.way)) (desk_game d)
-right_again g call d e r s same-desk same-reply right = rw (same-desk, same-reply) right
 
 -- the lines of some kinds, and that of one more
 pub lines_more : (f : Kind → List ℕ) (before now' after : List ℕ) (ks : List Kind) (i : ℕ) (k : Kind) → take (i + 1) ks ≡ take i ks ++ k ∷ [] →

@@ -1,16 +1,9 @@
 -- Who has won, and the board drawn with a way marked.
-use Rattle.std.proofs.Common.{◌≡◌, ℕ, Bool, true, false, not, ◌⊎◌, List, ◌++◌, is_some, Some, None, codes, Decides, Option, refl, subst, inl, inr, arith}
+use Rattle.std.proofs.Common.{◌≡◌, ℕ, Bool, true, false, not, ◌⊎◌, List, is_some, Some, None, Decides, Option, refl, subst, inl, inr, arith}
 use Rattle.hexboard.specs.Games as games
 use Rattle.hexboard.specs.Sides.{number}
 use Rattle.hexboard.specs.declared.side.Side.{Side}
 use Rattle.hexboard.specs.declared.side.Side.TheVariants.{One, Two}
-use Rattle.text.specs.Boards.{board_lines, outcome_line}
-use Rattle.text.proofs.Added.{three_parts}
-use Rattle.hexboard.specs.Board.{empties}
-use Rattle.wire.specs.declared.call.Call.{Call}
-use Rattle.wire.specs.declared.call.Call.TheVariants as call
-use Rattle.driver.specs.declared.limits.Limits.{Limits}
-use Rattle.driver.specs.Served.{TooLong, Beyond}
 use Rattle.driver.specs.Drawn.{Outcome, Drawn, Marked, shown_by}
 
 one_or_two : (side : Side) → (number side ≡ 1) ⊎ (number side ≡ 2)
@@ -24,13 +17,6 @@ open_if_nobody g None false e open' = let z : ◌≡◌ {A = ℕ} 0 1 = cc in ab
 open_if_nobody g (Some side) true e connects = let z : ◌≡◌ {A = ℕ} 0 1 = cc in absurd (omega arith)
 open_if_nobody g (Some side) false e connects =
     (λ t. let z : ◌≡◌ {A = ℕ} 0 1 = cc in absurd (omega arith), λ open'. absurd (open' (games.won (number side) (one_or_two side) connects)))
-
--- a program that looks through no ends does not look too far
-pub none_beyond : (limits : Limits) (g : games.Game) (call : Call) → limits.ends ≡ None → Beyond limits g call → ⊥
-none_beyond limits g (call.Move cell) none beyond = beyond
-none_beyond limits g call.Back none beyond = beyond
-none_beyond limits g call.Who none beyond = beyond
-none_beyond limits g call.CanForce none beyond = subst (λ ends. TooLong ends (empties g.board.cells)) none beyond.0
 
 -- asking who has connected leaves the game as it is
 pub who_keeps : {g h : games.Game} {c : games.Call} {a : games.Answer} → games.Right g c a h → c ≡ games.who → h ≡ g
@@ -46,13 +32,6 @@ who_keeps (games.forced i p w q f) e = refl
 who_keeps (games.has_it c) e = refl
 who_keeps (games.not_forced f) e = refl
 who_keeps (games.many p w) e = refl
-
--- the rows, who has won and the end of the line, one behind the other
-pub drawn : (g : games.Game) (marked before rows told after : List ℕ) (n : ℕ) (cells : List ℕ) (winner : Option Side) → n ≡ g.board.wide → cells ≡ g.board.cells → Outcome g winner →
-    rows ≡ before ++ board_lines n cells marked → told ≡ rows ++ outcome_line winner → after ≡ told ++ codes "\n" → Drawn g marked before after
-drawn g marked before rows told after n cells winner wide same outcome is-rows is-told is-after =
-    let whole = subst (λ (k : ℕ). rows ≡ before ++ board_lines k g.board.cells marked) wide (subst (λ (xs : List ℕ). rows ≡ before ++ board_lines n xs marked) same is-rows) in
-    (winner, outcome, three_parts before rows told after _ (outcome_line winner) (codes "\n") whole is-told is-after)
 
 -- the cells that are marked are those of the answer's way
 pub marked : (g h : games.Game) (a : games.Answer) (cells before after : List ℕ) → games.Right g games.who a h → cells ≡ shown_by a → Drawn h cells before after → Marked g h before after

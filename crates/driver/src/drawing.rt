@@ -5,13 +5,14 @@ ghost use Rattle.hexboard.specs.Words.{words};
 ghost use Rattle.session.specs.Desks.{desk_game};
 ghost use Rattle.driver.specs.Drawn.{Drawn, Marked, shown_by};
 
-use session::Desk;
+use session::{Desk, with_way};
 use std::fmt;
 use std::fmt::Write;
 use text::{write_board, write_outcome};
 use wire::{Answer, Call};
 
-// Adds the rows of the board and the line that says who has won, each with its end.
+// Adds the rows of the board and the line that says who has won, each with its end. This is no Display, since the desk is another
+// crate's type, and with its way marked it is asked who has connected, which writes to its scratch.
 pub fn write_position(out: &mut String, desk: &Desk) -> fmt::Result
     ensures { OnOk result (Drawn (desk_game desk.now) [] (string_bytes out.old) (string_bytes out.new)) }
 {
@@ -23,7 +24,7 @@ pub fn write_marked_position(out: &mut String, desk: &mut Desk) -> fmt::Result
     ensures { OnOk result (Marked (desk_game desk.old) (desk_game desk.new) (string_bytes out.old) (string_bytes out.new)) }
 {
     let reply = desk.serve(Call::Who);
-    let way = cells_of(reply.answer(desk.way()));
+    let way = cells_of(with_way(reply, desk.way()));
     draw(out, desk, way)
 }
 

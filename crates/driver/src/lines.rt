@@ -8,26 +8,19 @@ ghost use Rattle.driver.specs.Served.{trimmed, answer_is_taken, first_served, Op
 use crate::failed::Failed;
 use crate::limits::Limits;
 use crate::served::Served;
-use session::{Desk, Reply, Unopened};
+use session::{Desk, Reply, Unopened, with_way};
 use std::alloc::Global;
 use std::fmt;
 use std::fmt::Write;
 use text::{Line, read_line};
 use wire::{Call, Refusal};
 
-// Adds that a line cannot be read, and the place of its first byte that does not fit.
+// Adds that a line cannot be read, and the place of its first byte that does not fit. No Display of a refusal says this: a line can be
+// longer than the two bytes count that a refusal has for the place.
 fn write_unreadable(out: &mut String, place: usize) -> fmt::Result
     ensures { OnOk result (string_bytes out.new ≡ string_bytes out.old ++ (codes "refused 1 at " ++ decimal place)) }
 {
     write!(out, "refused 1 at {place}")?;
-    Ok(())
-}
-
-// Adds what opening a board is answered by.
-fn write_opened(out: &mut String, n: u16) -> fmt::Result
-    ensures { OnOk result (string_bytes out.new ≡ string_bytes out.old ++ (codes "board " ++ decimal n)) }
-{
-    write!(out, "board {n}")?;
     Ok(())
 }
 
@@ -92,7 +85,8 @@ fn open_first(
 {
     match open(heap, limits, n)? {
         Some(desk) => {
-            write_opened(out, n)?;
+            // Told by the line that asked for it.
+            write!(out, "{}", Line::Board(n))?;
             Ok(Some(desk))
         }
         None => {
@@ -151,7 +145,7 @@ fn serve(limits: Limits, desk: &mut Desk, call: Call, out: &mut String) -> Resul
     } else {
         desk.serve(call)
     };
-    let answer = reply.answer(desk.way());
+    let answer = with_way(reply, desk.way());
     write!(out, "{answer}")?;
     Ok(served_by(reply))
 }
@@ -181,7 +175,7 @@ fn reopen(
     match open(heap, limits, n)? {
         Some(opened) => {
             *desk = opened;
-            write_opened(out, n)?;
+            write!(out, "{}", Line::Board(n))?;
             Ok(Served::Taken)
         }
         None => {

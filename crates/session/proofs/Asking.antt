@@ -1,7 +1,5 @@
 -- Who has connected, and the way that shows it.
-use Rattle.std.proofs.Common.{◌≡◌, ℕ, ◌+◌, ◌-◌, ◌*◌, min, List, [], ◌∷◌, length, take, Some, None, Option, sym, refl, ap, ◌∙◌, subst, ⊎_elim, arith, MatchOption}
-use Rattle.std.proofs.lemmas.List.{take_all}
-use Rattle.std.proofs.str.Laws.{order}
+use Rattle.std.proofs.Common.{◌≡◌, ℕ, ◌*◌, List, length, take, Some, None, Option, sym, ap, ◌∙◌, arith, MatchOption}
 use Rattle.hexboard.specs.Board.{Connects}
 use Rattle.hexboard.specs.Geometry.{laid}
 use Rattle.hexboard.specs.Games as games
@@ -14,16 +12,9 @@ use Rattle.history.specs.Holds.{won_by, Memory, moves_in, formal, Holds}
 use Rattle.history.specs.declared.game.Game.{Game}
 use Rattle.history.proofs.Serving.{some_side, not_won, winner_connects, right_way}
 use Rattle.history.proofs.Turns.{winner_open, winner_won}
-use Rattle.session.specs.declared.reply.Reply.TheVariants as reply
+use Rattle.wire.specs.declared.answer.Answer.TheVariants as reply
+use Rattle.session.specs.Replies.{Reply}
 use Rattle.wire.specs.declared.refusal.Refusal.{Refusal}
-
--- the front of some bytes, cut at their end if it would be longer
-pub front_of : (bytes : List ℕ) (e k : ℕ) → e ≡ min k (length bytes) → take k bytes ≡ take (e - 0) bytes
-front_of bytes e k cut =
-    ⊎_elim
-    (λ less. let z : k ≡ e - 0 = omega arith in ap (λ j. take j bytes) z)
-    (λ more. let z : length bytes ≡ e - 0 = omega arith in take_all k bytes more ∙ (sym (take_all (length bytes) bytes (omega arith)) ∙ ap (λ j. take j bytes) z))
-    (order k (length bytes))
 
 -- there is a stone's byte for each cell
 pub stones_long : (g : Game) (m : Memory) → Holds g m → length m.stones ≡ g.size.n * g.size.n
@@ -37,20 +28,11 @@ right_found g m h side e old new k w =
     right_way g m h (number side) _ (winner_connects g m h side e).1 w.shortest.way w.shortest.few
 
 -- no other reply is a refusal
-pub not_refused_number : (n : ℕ) (why : Refusal) → reply.Number n ≡ reply.Refused why → ⊥
+pub not_refused_number : (n : ℕ) (why : Refusal) → ◌≡◌ {A = Reply} (reply.Number n) (reply.Refused why) → ⊥
 not_refused_number n why e = let z : ◌≡◌ {A = ℕ} 0 1 = cc in omega arith
 
-pub not_refused_way : (side : Side) (k : ℕ) (why : Refusal) → reply.Way side k ≡ reply.Refused why → ⊥
+pub not_refused_way : (side : Side) (k : ℕ) (why : Refusal) → ◌≡◌ {A = Reply} (reply.Way side k) (reply.Refused why) → ⊥
 not_refused_way side k why e = let z : ◌≡◌ {A = ℕ} 0 1 = cc in omega arith
-
-pub not_refused_yes : (n : ℕ) (why : Refusal) → reply.Yes n ≡ reply.Refused why → ⊥
-not_refused_yes n why e = let z : ◌≡◌ {A = ℕ} 0 1 = cc in omega arith
-
-pub not_refused_no : (why : Refusal) → reply.No ≡ reply.Refused why → ⊥
-not_refused_no why e = let z : ◌≡◌ {A = ℕ} 0 1 = cc in omega arith
-
-pub not_refused_many : (why : Refusal) → reply.TooMany ≡ reply.Refused why → ⊥
-not_refused_many why e = let z : ◌≡◌ {A = ℕ} 0 1 = cc in omega arith
 
 -- nobody has won, or the winner has connected
 pub won_or_nobody : (g : Game) (m : Memory) → Holds g m → (r : Option Side) → r ≡ g.winner → MatchOption r (games.Won (formal g m) → ⊥) (λ side. Connects (formal g m).board (number side))

@@ -1,8 +1,5 @@
 -- What a desk keeps is that its memory holds its game; and memory that was lent comes back as it was left.
-use Rattle.std.proofs.Common.{◌≡◌, ℕ, ◌*◌, ◌≤◌, List, ◌++◌, length, take, drop, sym, ap, subst, ⊎_elim, mul-le-mul, arith}
-use Rattle.std.proofs.lemmas.Bool.Decides.{nat_tests}
-use Rattle.std.proofs.str.Laws.{order}
-use Rattle.verdict.specs.Verdicts.{bytes_of_table}
+use Rattle.std.proofs.Common.{◌≡◌, ℕ, List, ◌++◌, length, take, drop, sym, ap, subst}
 use Rattle.std.proofs.lemmas.List.{take_at}
 use Rattle.hexboard.specs.Games as games
 use Rattle.history.specs.Holds.{Memory, lent, formal, Holds}
@@ -10,10 +7,6 @@ use Rattle.history.specs.declared.game.Game.{Game}
 use Rattle.session.specs.Keeps.{Fair, Written, Grouped}
 use Rattle.session.specs.Desks.{memory_of}
 use Rattle.session.specs.declared.desk.Desk.{Desk}
-
--- the table of an end has room for the search for a way
-pub path_fits : (n : ℕ) → n ≤ 19 → 4 * (n * n) ≤ bytes_of_table n
-path_fits n few = ⊎_elim (λ less. let h : n ≤ 3 = omega arith in let all : n * n ≤ 9 = mul-le-mul h h in grind (arith, nat_tests)) (λ more. let all : n * n ≤ 361 = mul-le-mul few few in grind (arith, nat_tests)) (order n 4)
 
 -- the parts of the fact, put together
 holds_from : (g : Game) (m : Memory) → Fair g m → Written g m → Grouped g m → Holds g m

@@ -15,10 +15,9 @@ use Rattle.wire.specs.Reading.{read}
 use Rattle.wire.specs.declared.call.Call.{Call}
 use Rattle.hexboard.proofs.TwoBytes.{words_length}
 use Rattle.wire.proofs.Words.{joined_words, length_joined}
-use Rattle.session.specs.Replies.{replied, way_cells, shown}
+use Rattle.session.specs.Replies.{Reply, replied, way_cells, shown}
 use Rattle.session.specs.Calling.{Shown, Refuses, RightBytes}
-use Rattle.session.specs.declared.reply.Reply.{Reply}
-use Rattle.session.specs.declared.reply.Reply.TheVariants as reply
+use Rattle.wire.specs.declared.answer.Answer.TheVariants as reply
 use Rattle.wire.specs.declared.refusal.Refusal.{Refusal}
 
 -- bytes of a part are bytes

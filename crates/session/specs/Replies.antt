@@ -1,19 +1,23 @@
 -- Replies as answers of the rules, and an answer's bytes.
-use Rattle.std.specs.Prelude.{ℕ, ◌*◌, List, [], ◌∷◌, length, take}
+use Rattle.std.specs.Prelude.{ℕ, ◌*◌, ◌^◌, ◌<◌, List, [], ◌∷◌, length, take}
 use Rattle.hexboard.specs.Games as games
 use Rattle.hexboard.specs.Sides.{number}
 use Rattle.hexboard.specs.Words.{words}
 use Rattle.wire.specs.Bytes.{in_bytes}
-use Rattle.wire.specs.Numbers.{Numbered, reason}
-use Rattle.session.specs.declared.reply.Reply.{Reply}
-use Rattle.session.specs.declared.reply.Reply.TheVariants.{Refused, Number, Way, Yes, No, TooMany}
+use Rattle.wire.specs.Numbers.{Numbered, reason, next_of}
+use Rattle.wire.specs.declared.answer.Answer.{Answer}
+use Rattle.wire.specs.declared.answer.Answer.TheVariants.{Refused, Number, Way, Yes, No, TooMany}
+
+-- an answer that tells how many cells its way has
+abbrev pub Reply : Type 0
+Reply = Answer ℕ
 
 -- the answer of the rules that a reply is, with the way, if it has one, at the front of these bytes
 abbrev pub replied : Reply → List ℕ → games.Answer
 replied (Refused why) way = games.refused (reason why).number (reason why).place
 replied (Number n) way = games.number n
 replied (Way side count) way = games.way (number side) (words (take (2 * count) way))
-replied (Yes next) way = games.yes next
+replied (Yes cell) way = games.yes (next_of cell)
 replied No way = games.no
 replied TooMany way = games.too_many
 
@@ -22,9 +26,18 @@ abbrev pub way_cells : Reply → ℕ
 way_cells (Refused why) = 0
 way_cells (Number n) = 0
 way_cells (Way side count) = count
-way_cells (Yes next) = 0
+way_cells (Yes cell) = 0
 way_cells No = 0
 way_cells TooMany = 0
+
+-- a reply that has bytes: one more than the cell of a yes is a number of two bytes
+abbrev pub HasBytes : Reply → Type 0
+HasBytes (Refused why) = Unit {0}
+HasBytes (Number n) = Unit {0}
+HasBytes (Way side count) = Unit {0}
+HasBytes (Yes cell) = next_of cell < 2 ^ 16
+HasBytes No = Unit {0}
+HasBytes TooMany = Unit {0}
 
 -- an answer in numbers: its case, and the values that the case holds
 abbrev pub in_numbers : games.Answer → Numbered

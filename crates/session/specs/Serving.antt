@@ -7,9 +7,8 @@ use Rattle.wire.specs.declared.refusal.Refusal.{Refusal}
 use Rattle.history.specs.Holds.{Memory, formal, Holds}
 use Rattle.history.specs.declared.game.Game.{Game}
 use Rattle.verdict.specs.Verdicts.{bytes_of_table}
-use Rattle.session.specs.Replies.{replied, way_cells}
-use Rattle.session.specs.declared.reply.Reply.{Reply}
-use Rattle.session.specs.declared.reply.Reply.TheVariants.{Refused}
+use Rattle.session.specs.Replies.{Reply, replied, way_cells, HasBytes}
+use Rattle.wire.specs.declared.answer.Answer.TheVariants.{Refused}
 
 -- Room on a board n wide: scratch for the search for a way, four bytes a cell, and for the table of an end; and for the cells of a way, two bytes a cell.
 pub record Room (n scratch way : ℕ) : Type 0 where
@@ -32,5 +31,6 @@ pub record Answered (g : Game) (m : Memory) (s : Beside) (call : Call) (h : Game
   pub holds : Holds h k
   pub same_size : h.size ≡ g.size
   pub refused : (why : Refusal) → reply ≡ Refused why → (h ≡ g) × (k ≡ m) × (t ≡ s)
+  pub has_bytes : HasBytes reply
   pub fits : way_cells reply ≤ g.size.n * g.size.n
   pub behind : drop (2 * way_cells reply) t.way ≡ drop (2 * way_cells reply) s.way

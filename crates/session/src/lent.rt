@@ -6,9 +6,12 @@ ghost use Rattle.session.specs.Serving.{Room};
 ghost use Rattle.session.specs.Calling.{Called};
 ghost use Rattle.session.specs.Lending.{asked, within, New, NotOpened};
 
-use crate::bytes::call_in;
+use crate::bytes::show;
+use crate::reply::Reply;
+use crate::serve::serve;
 use hexboard::Size;
 use history::Game;
+use thiserror::Error;
 use wire::Refusal;
 
 // The parts of the lent memory, one behind the other: a byte for each stone; two for each move; two for each cell's parent in its group,
@@ -23,7 +26,8 @@ pub struct Parts<'a> {
 }
 
 // Why a game was not opened, and the memory, which is as it was.
-#[derive(Drop)]
+#[derive(Debug, Drop, Error)]
+#[error("{why}")]
 pub struct Closed<'a> {
     pub why: Refusal,
     pub memory: &'a mut [u8],
@@ -83,6 +87,17 @@ pub fn call<'a>(
     ensures holds { Holds result.0 (lent result.1.stones.now result.1.log.now result.1.parents.now result.1.borders.now) }
     ensures room { Room result.0.size.n (length result.1.scratch.now) (2 * (result.0.size.n * result.0.size.n)) }
 {
+    let cells = game.size().cells() as usize;
+    if answer.len() < 2 * cells + 8 {
+        return (game, parts, None);
+    }
+    let call = match wire::read_call(bytes) {
+        Ok(call) => call,
+        Err(why) => {
+            let size = show(Reply::Refused(why), answer);
+            return (game, parts, Some(size));
+        }
+    };
     let Parts {
         stones,
         log,
@@ -90,7 +105,16 @@ pub fn call<'a>(
         borders,
         scratch,
     } = parts;
-    let (next, size) = call_in(game, stones, log, parents, borders, scratch, bytes, answer);
+    let (next, reply) = serve(
+        game,
+        call,
+        stones,
+        log,
+        parents,
+        borders,
+        scratch,
+        &mut answer[5..],
+    );
     let parts = Parts {
         stones,
         log,
@@ -98,5 +122,5 @@ pub fn call<'a>(
         borders,
         scratch,
     };
-    (next, parts, size)
+    (next, parts, Some(show(reply, answer)))
 }

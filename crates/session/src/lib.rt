@@ -14,6 +14,6 @@ mod unopened;
 
 pub use desk::Desk;
 pub use lent::{Closed, Parts, call, memory_for, open};
-pub use reply::Reply;
+pub use reply::{Reply, with_way};
 pub use runs::{Sink, contracts_suffice, run};
 pub use unopened::Unopened;

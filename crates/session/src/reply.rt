@@ -3,38 +3,25 @@ ghost use Rattle.std.specs.Prelude.{◌≡◌};
 ghost use Rattle.wire.specs.Formal.{told};
 ghost use Rattle.session.specs.Replies.{replied};
 
-use hexboard::Side;
-use wire::{Answer, Refusal};
+use wire::Answer;
 
-// An answer whose way, if it has one, stands in bytes that were lent for it, two a cell, low byte first.
-#[derive(Clone, Copy, PartialEq, Eq, Debug)]
-pub enum Reply {
-    Refused(Refusal),
-    // Of a move, from 0; or how many moves are left; 0 if nobody has connected.
-    Number(u16),
-    // A side that has connected, and how many cells its way has.
-    Way(Side, u16),
-    // One more than a cell for a move that does it, or 0 if the side to move has connected.
-    Yes(u16),
-    No,
-    TooMany,
-}
+// An answer that tells how many cells its way has, if it has one. The cells stand in bytes that were lent for them, two a cell, low
+// byte first.
+pub type Reply = Answer<u16>;
 
-impl Reply {
-    // The answer, with the way that stands at the front of these bytes.
-    pub fn answer(self, way: &[u8]) -> Answer<&[u8]>
-        ensures { told result ≡ replied self way.now }
-    {
-        match self {
-            Reply::Refused(why) => Answer::Refused(why),
-            Reply::Number(number) => Answer::Number(number),
-            Reply::Way(side, count) => {
-                let end = (2 * count as usize).min(way.len());
-                Answer::Way(side, &way[0..end])
-            }
-            Reply::Yes(next) => Answer::Yes(next.checked_sub(1)),
-            Reply::No => Answer::No,
-            Reply::TooMany => Answer::TooMany,
+// The answer that a reply is, with the way that stands at the front of these bytes.
+pub fn with_way(reply: Reply, way: &[u8]) -> Answer<&[u8]>
+    ensures { told result ≡ replied reply way.now }
+{
+    match reply {
+        Answer::Refused(why) => Answer::Refused(why),
+        Answer::Number(number) => Answer::Number(number),
+        Answer::Way(side, count) => {
+            let end = (2 * count as usize).min(way.len());
+            Answer::Way(side, &way[0..end])
         }
+        Answer::Yes(cell) => Answer::Yes(cell),
+        Answer::No => Answer::No,
+        Answer::TooMany => Answer::TooMany,
     }
 }

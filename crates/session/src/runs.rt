@@ -6,6 +6,7 @@ ghost use Rattle.session.specs.Desks.{desk_game};
 ghost use Rattle.session.specs.Runs.{Heard, ContractsSuffice};
 
 use crate::desk::Desk;
+use crate::reply::with_way;
 use crate::unopened::Unopened;
 use std::alloc::Global;
 use wire::{Answer, Call};
@@ -27,7 +28,7 @@ impl Desk {
     {
         for call in calls {
             let reply = self.serve(*call);
-            sink.hear(reply.answer(self.way()));
+            sink.hear(with_way(reply, self.way()));
         }
     }
 }

@@ -2,8 +2,9 @@
 ghost use Rattle.std.specs.Prelude.{◌≡◌, ℕ, ◌*◌, ◌≤◌, List, length, drop, ◌≢◌};
 ghost use Rattle.hexboard.specs.Games as games;
 ghost use Rattle.history.specs.Holds.{lent, formal, Holds};
+ghost use Rattle.wire.specs.declared.answer.Answer.TheVariants.{Refused};
 ghost use Rattle.verdict.specs.Verdicts.{bytes_of_table};
-ghost use Rattle.session.specs.Replies.{replied, way_cells};
+ghost use Rattle.session.specs.Replies.{replied, way_cells, HasBytes};
 ghost use Rattle.session.specs.Serving.{Room, beside, Answered};
 ghost use Rattle.session.specs.Told.{told_who, found_cells};
 
@@ -72,12 +73,13 @@ fn can_force(game: Game, stones: &[u8], parents: &[u8], borders: &[u8], scratch:
     requires room { bytes_of_table game.size.n ≤ length scratch.old }
     ensures right { (log way : List ℕ) → Holds game (lent stones.now log parents.now borders.now) → games.Right (formal game (lent stones.now log parents.now borders.now)) games.can_force (replied result way) (formal game (lent stones.now log parents.now borders.now)) }
     ensures bare { way_cells result ≡ 0 }
-    ensures served { (why : Refusal) → result ≢ Reply.Refused why }
+    ensures has_bytes { HasBytes result }
+    ensures served { (why : Refusal) → result ≢ Refused why }
 {
     let turn = game.turn();
     if let Some(side) = game.winner() {
         return if side == turn {
-            Reply::Yes(0)
+            Reply::Yes(None)
         } else {
             Reply::No
         };
@@ -89,7 +91,7 @@ fn can_force(game: Game, stones: &[u8], parents: &[u8], borders: &[u8], scratch:
         borders,
     };
     match verdict::can_force(&position, turn, scratch) {
-        Verdict::Yes(cell) => Reply::Yes(cell + 1),
+        Verdict::Yes(cell) => Reply::Yes(Some(cell)),
         Verdict::No => Reply::No,
         Verdict::TooMany => Reply::TooMany,
     }

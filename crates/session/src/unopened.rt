@@ -9,7 +9,7 @@ use wire::Refusal;
 // The size is refused, or there is no memory.
 #[derive(Clone, Copy, Debug, Drop, PartialEq, Eq, Error)]
 pub enum Unopened {
-    #[error("the size of the board is out of range")]
+    #[error("{0}")]
     Refused(Refusal),
     #[error("there is no memory")]
     NoMemory,

@@ -15,8 +15,5 @@ large n h = mul-le-mul h h
 table-within : (n : ℕ) → 6 * (n * n) + bytes_of_table n ≤ within n
 table-within n = ⊎_elim (λ less. let all = small n (omega arith) in grind (arith, nat_tests)) (λ more. let all = large n (omega arith) in grind (arith, nat_tests)) (order n 4)
 
-pub returns : goal.returns
-returns c =
-    let cells = c.cells.ensures.value in
-    let table = c.table_bytes.ensures in
-    record { value = omega arith; bound = omega (arith, table-within c.args.size.n) }
+pub returns-clause-bound : goal.returns-clause-bound
+returns-clause-bound c = omega (arith, c.cells.ensures.value, c.table_bytes.ensures, table-within c.args.size.n)

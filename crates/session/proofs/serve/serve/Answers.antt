@@ -3,11 +3,8 @@ use Rattle.history.specs.Holds.{lent}
 use Rattle.session.proofs.Asking.{stones_long, not_refused_number, not_refused_way}
 use Rattle.session.proofs.serve.serve.Goals as goal
 
-pub who-requires : goal.who-requires
-who-requires c = record {
-  room = c.requires.room;
-  long = stones_long c.args.game (lent c.args.stones.now c.args.log.now c.args.parents.now c.args.borders.now) c.requires.holds;
-}
+pub who-requires-clause-long : goal.who-requires-clause-long
+who-requires-clause-long c = stones_long c.args.game (lent c.args.stones.now c.args.log.now c.args.parents.now c.args.borders.now) c.requires.holds
 
 pub returns-in-Some : goal.returns-in-Some
 returns-in-Some c = record {
@@ -15,6 +12,7 @@ returns-in-Some c = record {
   holds = c.requires.holds;
   same_size = refl;
   refused = λ why e. absurd (not_refused_way c.in-Some.side c.in-Some.cells why e);
+  has_bytes = tt;
   fits = c.in-Some.ensures.fits;
   behind = c.in-Some.ensures.behind;
 }
@@ -25,6 +23,7 @@ returns-in-None c = record {
   holds = c.requires.holds;
   same_size = refl;
   refused = λ why e. absurd (not_refused_number 0 why e);
+  has_bytes = tt;
   fits = c.in-None.ensures.fits;
   behind = c.in-None.ensures.behind;
 }

@@ -1,4 +1,4 @@
-use Rattle.std.proofs.Common.{sym, refl, ap, ◌∙◌, subst, arith}
+use Rattle.std.proofs.Common.{sym, ap, ◌∙◌, subst}
 use Rattle.hexboard.specs.Board.{Connects}
 use Rattle.hexboard.specs.Geometry.{laid}
 use Rattle.hexboard.specs.Sides.{number}
@@ -8,35 +8,22 @@ use Rattle.history.proofs.Serving.{right_nobody, winner_connects}
 use Rattle.session.proofs.Asking.{right_found}
 use Rattle.session.proofs.serve.who.Goals as goal
 
-pub returns-in_err-side : goal.returns-in_err-side
-returns-in_err-side c =
-    rw c.from_residual.ensures
-    record {
-      right = λ log parents borders h. right_nobody c.args.game _ h (ap won_by (sym c.winner.ensures ∙ c.in_err-side.was));
-      fits = omega arith;
-      behind = refl;
-    }
+pub returns-in_err-side-clause-right : goal.returns-in_err-side-clause-right
+returns-in_err-side-clause-right c =
+    rw c.from_residual.ensures (λ log parents borders h. right_nobody c.args.game _ h (ap won_by (sym c.winner.ensures ∙ c.in_err-side.was)))
 
-pub returns : goal.returns
-returns c =
+pub returns-clause-right : goal.returns-clause-right
+returns-clause-right c =
     let written =
     subst (λ n. Written (laid n c.args.stones.now) (number c.in_ok-side.side) c.args.way.now c.find_way.new.out c.in_ok-count.count)
     (ap (λ s. s.n) c.size-size.ensures) c.in_ok-count.ensures in
-    record {
-      right = λ log parents borders h.
-          right_found c.args.game (lent c.args.stones.now log parents borders) h c.in_ok-side.side (ap won_by (sym c.winner.ensures ∙ c.in_ok-side.was)) _ _ c.in_ok-count.count written;
-      fits = omega (arith, written.count, written.shortest.few, c.requires.long);
-      behind = written.behind;
-    }
+    λ log parents borders h.
+    right_found c.args.game (lent c.args.stones.now log parents borders) h c.in_ok-side.side (ap won_by (sym c.winner.ensures ∙ c.in_ok-side.was)) _ _ c.in_ok-count.count written
 
-pub returns-in_err-count : goal.returns-in_err-count
-returns-in_err-count c =
+pub returns-in_err-count-clause-right : goal.returns-in_err-count-clause-right
+returns-in_err-count-clause-right c =
     let none =
     subst (λ n. Connects (laid n c.args.stones.now) (number c.in_ok-side.side) → ⊥) (ap (λ s. s.n) c.size-size.ensures) c.in_err-count.ensures.0 in
     rw c.from_residual-in_err-count.ensures
-    record {
-      right = λ log parents borders h.
-          absurd (none (winner_connects c.args.game (lent c.args.stones.now log parents borders) h c.in_ok-side.side (ap won_by (sym c.winner.ensures ∙ c.in_ok-side.was))).0);
-      fits = omega arith;
-      behind = c.in_err-count.ensures.1;
-    }
+    (λ log parents borders h.
+    absurd (none (winner_connects c.args.game (lent c.args.stones.now log parents borders) h c.in_ok-side.side (ap won_by (sym c.winner.ensures ∙ c.in_ok-side.was))).0))

@@ -1,12 +1,9 @@
-use Rattle.std.proofs.Common.{◌≡◌, ℕ, sym, subst, arith}
+use Rattle.std.proofs.Common.{sym, subst, arith}
 use Rattle.hexboard.specs.Board.{empties}
 use Rattle.session.specs.Desks.{desk_game}
 use Rattle.driver.specs.Served.{TooLong}
-use Rattle.driver.proofs.Outcomes.{open_if_nobody, none_beyond}
+use Rattle.driver.proofs.Outcomes.{open_if_nobody}
 use Rattle.driver.proofs.limits.Limits.is_beyond.Goals as goal
-
-pub returns-in_default : goal.returns-in_default
-returns-in_default c = (λ t. let z : ◌≡◌ {A = ℕ} 0 1 = cc in absurd (omega arith), λ beyond. absurd (none_beyond c.args.self _ c.args.call c.in_default.is beyond))
 
 pub returns-then-ends-empty_cells : goal.returns-then-ends-empty_cells
 returns-then-ends-empty_cells c =

@@ -5,9 +5,6 @@ use Rattle.session.specs.Desks.{memory_of}
 use Rattle.session.proofs.Keeping.{desk_holds}
 use Rattle.session.proofs.desk.Desk.empty_cells.Goals as goal
 
-pub overflow_sub-result : goal.overflow_sub-result
-overflow_sub-result c = let d = c.args.self.now in omega (arith, d.game.few, c.cells-cells.ensures.value, c.count.ensures, ap (λ s. s.n * s.n) c.size.ensures)
-
 pub returns : goal.returns
 returns c =
     let d = c.args.self.now in

@@ -1,5 +1,4 @@
 use Rattle.std.proofs.Common.{◌≡◌, sym, subst, ◌∙◌, arith}
-use Rattle.hexboard.specs.Games as games
 use Rattle.history.specs.Holds.{lent, Holds}
 use Rattle.session.specs.Desks.{memory_of}
 use Rattle.session.specs.Keeps.{Roomy}

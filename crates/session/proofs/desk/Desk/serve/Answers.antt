@@ -1,10 +1,8 @@
 use Rattle.std.proofs.Common.{◌≡◌, sym, subst, arith}
 use Rattle.history.specs.Holds.{lent, Holds}
-use Rattle.wire.specs.Formal.{asked}
 use Rattle.session.specs.Desks.{memory_of}
 use Rattle.session.specs.Keeps.{Roomy}
-use Rattle.session.specs.Replies.{replied}
-use Rattle.session.proofs.Keeping.{whole, desk_holds, kept_in, given_back, memory_back, right_as}
+use Rattle.session.proofs.Keeping.{whole, desk_holds, kept_in, memory_back}
 use Rattle.session.proofs.desk.Desk.serve.Goals as goal
 use Rattle.session.proofs.desk.Desk.serve.Goals.{After-deref_mut-6, After-serve-reply}
 
@@ -13,13 +11,8 @@ lent-now : (c : After-deref_mut-6) →
     lent c.deref_mut.result.now c.deref_mut-2.result.now c.deref_mut-3.result.now c.deref_mut-4.result.now ≡ memory_of c.args.self.now
 lent-now c = λ i. lent (c.deref_mut.ensures.value i) (c.deref_mut-2.ensures.value i) (c.deref_mut-3.ensures.value i) (c.deref_mut-4.ensures.value i)
 
-pub serve-reply-requires : goal.serve-reply-requires
-serve-reply-requires c =
-    let d = c.args.self.now in
-    record {
-      holds = subst (Holds d.game) (sym (lent-now c)) (desk_holds d);
-      room = record { searched = omega (arith, d.room.0, c.deref_mut-5.ensures.len); tabled = omega (arith, d.room.2, c.deref_mut-5.ensures.len); written = omega (arith, d.room.1, c.deref_mut-6.ensures.len) };
-    }
+pub serve-reply-requires-clause-holds : goal.serve-reply-requires-clause-holds
+serve-reply-requires-clause-holds c = subst (Holds c.args.self.now.game) (sym (lent-now c)) (desk_holds c.args.self.now)
 
 -- and what it holds afterwards is what was left
 left-now : (c : After-serve-reply) →
@@ -43,11 +36,3 @@ invariant_of-self c =
       written = kept.1.0;
       grouped = kept.1.1.0;
     }
-
-pub returns : goal.returns
-returns c =
-    let d = c.args.self.now in
-    right_as d.game c.serve-reply.result.0 _ (memory_of d) _ _ (asked c.args.call) (replied c.serve-reply.result.1) c.serve-reply.new.way _
-    (lent-now (goal.at.returns c).After-deref_mut-6) (left-now (goal.at.returns c).After-serve-reply)
-    (given_back c.serve-reply.new.way d.way.items d.way.len (omega (arith, c.serve-reply.auto.way, c.deref_mut-6.ensures.len)))
-    c.serve-reply.ensures.right
