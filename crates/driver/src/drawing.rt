@@ -11,7 +11,8 @@ use std::fmt::Write;
 use text::{write_board, write_outcome};
 use wire::{Answer, Call};
 
-// Adds the rows of the board and the line that says who has won, each with its end.
+// Adds the rows of the board and the line that says who has won, each with its end. This is no Display, since the desk is another
+// crate's type, and with its way marked it is asked who has connected, which writes to its scratch.
 pub fn write_position(out: &mut String, desk: &Desk) -> fmt::Result
     ensures { OnOk result (Drawn (desk_game desk.now) [] (string_bytes out.old) (string_bytes out.new)) }
 {

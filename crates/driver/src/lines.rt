@@ -15,19 +15,12 @@ use std::fmt::Write;
 use text::{Line, read_line};
 use wire::{Call, Refusal};
 
-// Adds that a line cannot be read, and the place of its first byte that does not fit.
+// Adds that a line cannot be read, and the place of its first byte that does not fit. No Display of a refusal says this: a line can be
+// longer than the two bytes count that a refusal has for the place.
 fn write_unreadable(out: &mut String, place: usize) -> fmt::Result
     ensures { OnOk result (string_bytes out.new ≡ string_bytes out.old ++ (codes "refused 1 at " ++ decimal place)) }
 {
     write!(out, "refused 1 at {place}")?;
-    Ok(())
-}
-
-// Adds what opening a board is answered by.
-fn write_opened(out: &mut String, n: u16) -> fmt::Result
-    ensures { OnOk result (string_bytes out.new ≡ string_bytes out.old ++ (codes "board " ++ decimal n)) }
-{
-    write!(out, "board {n}")?;
     Ok(())
 }
 
@@ -92,7 +85,8 @@ fn open_first(
 {
     match open(heap, limits, n)? {
         Some(desk) => {
-            write_opened(out, n)?;
+            // Told by the line that asked for it.
+            write!(out, "{}", Line::Board(n))?;
             Ok(Some(desk))
         }
         None => {
@@ -181,7 +175,7 @@ fn reopen(
     match open(heap, limits, n)? {
         Some(opened) => {
             *desk = opened;
-            write_opened(out, n)?;
+            write!(out, "{}", Line::Board(n))?;
             Ok(Served::Taken)
         }
         None => {

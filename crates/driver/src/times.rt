@@ -127,7 +127,8 @@ fn nanos_of(span: Duration) -> u64
     u64::try_from(span.as_nanos()).unwrap_or(u64::MAX)
 }
 
-// Adds a line, with its end, for each kind of which a line came.
+// Adds a line, with its end, for each kind of which a line came. A Display of the times would want one more type, for a kind with its
+// tally, to write a line by.
 pub fn write_times(out: &mut String, times: Times) -> fmt::Result
     ensures { OnOk result (string_bytes out.new ≡ string_bytes out.old ++ times_lines times) }
 {

@@ -15,7 +15,8 @@ pub struct Links {
 }
 
 impl Links {
-    // The cells that the flood from a set of cells touches: those, and what is near a touched stone.
+    // The cells that the flood from a set of cells touches: those, and what is near a touched stone. That stones stand on cells of an end
+    // is asked here and in the two methods below, and is no type: sets are joined and cut as numbers in every step of the search.
     fn flood(&self, from: u64, stones: u64) -> u64
         requires { stones < 2 ^ 16 }
         ensures { Flood self.now.near from stones result }

@@ -90,7 +90,8 @@ impl Grouped<'_> {
     }
 }
 
-// Puts the k-th empty cell into the set at a place; nothing where there is no such place.
+// Puts the k-th empty cell into the set at a place; nothing where there is no such place. That k is below 64 is asked three times here
+// and is no type: each is called in one place, with a place of a list of 16.
 fn enter(sets: &mut [u64], place: u16, k: u32)
     requires { k < 64 }
     ensures { sets.new ≡ enter k place sets.old }
