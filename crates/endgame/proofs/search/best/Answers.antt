@@ -1,32 +1,32 @@
-use Rattle.std.proofs.Common.{◌≡◌}
-use Rattle.std.proofs.lemmas.List.Elements.{All-head, All-tail}
-use Rattle.ranking.specs.Sets.{bit}
-use Rattle.ranking.proofs.Bits.{cell_below}
-use Rattle.ranking.proofs.Members.{members_in}
+use Rattle.std.proofs.Common.{refl, inl, inr, arith}
+use Rattle.std.proofs.lemmas.Nat.{and_le_r}
+use Rattle.ranking.proofs.Bits.{cell_le, cell_below}
+use Rattle.endgame.proofs.Threats.{choosing_more}
 use Rattle.endgame.proofs.search.best.Goals as goal
-use Rattle.endgame.proofs.search.best.Goals.{In-Some}
 
-pub loop-cell-init : goal.loop-cell-init
-loop-cell-init c = record { chosen = c.lowest-best.ensures.within; inside = rw (c.into_iter-cell-iterator.ensures.into_iter_gives, c.of-cell-items.ensures) (members_in c.args.must) }
+pub loop-rest-init : goal.loop-rest-init
+loop-rest-init c = record { chosen = c.lowest-best.ensures.within; inside = λ k h. h }
 
--- the cell that is looked at is one of those
-chosen : (c : In-Some) → bit c.in-Some.cell c.args.must ≡ 1
-chosen c = All-head (λ k. bit k c.args.must ≡ 1) c.in-Some.cell c.next.new.self (rw c.in-Some.ensures.steps at c.loop-cell.invariant.inside)
+pub overflow_sub-rest : goal.overflow_sub-rest
+overflow_sub-rest c = omega (arith, c.one-rest.ensures, cell_le c.lowest-k.result c.loop-rest.rest c.lowest-k.ensures.within)
 
-pub weight-own-requires-clause-inside : goal.weight-own-requires-clause-inside
-weight-own-requires-clause-inside c = cell_below 16 c.in-Some.cell c.args.must c.requires.fits (chosen (goal.at.weight-own-requires-clause-inside c).In-Some)
-
-pub weight-others-requires-clause-inside : goal.weight-others-requires-clause-inside
-weight-others-requires-clause-inside c = cell_below 16 c.in-Some.cell c.args.must c.requires.fits (chosen (goal.at.weight-others-requires-clause-inside c).In-Some)
-
-pub loop-cell-preserved-then-own-others : goal.loop-cell-preserved-then-own-others
-loop-cell-preserved-then-own-others c = record {
-  chosen = chosen (goal.at.loop-cell-preserved-then-own-others c).In-Some;
-  inside = All-tail (λ k. bit k c.args.must ≡ 1) c.in-Some.cell c.next.new.self (rw c.in-Some.ensures.steps at c.loop-cell.invariant.inside);
+pub weight-requires : goal.weight-requires
+weight-requires c = record {
+  inside = cell_below 16 c.lowest-k.result c.args.must c.requires.fits (c.loop-rest.invariant.inside c.lowest-k.result c.lowest-k.ensures.within);
+  few = omega (arith, and_le_r c.args.at.mine 65535);
 }
 
-pub loop-cell-preserved : goal.loop-cell-preserved
-loop-cell-preserved c = record {
-  chosen = c.loop-cell.invariant.chosen;
-  inside = All-tail (λ k. bit k c.args.must ≡ 1) c.in-Some.cell c.next.new.self (rw c.in-Some.ensures.steps at c.loop-cell.invariant.inside);
+pub weight-requires-in-loop-rest : goal.weight-requires-in-loop-rest
+weight-requires-in-loop-rest c = record {
+  inside = cell_below 16 c.lowest-k.result c.args.must c.requires.fits (c.loop-rest.invariant.inside c.lowest-k.result c.lowest-k.ensures.within);
+  few = omega (arith, and_le_r c.args.at.theirs 65535);
 }
+
+pub loop-rest-preserved-then-linked-most : goal.loop-rest-preserved-then-linked-most
+loop-rest-preserved-then-linked-most c = choosing_more c.lowest-k.result c.one-rest.result _ c.loop-rest.invariant c.lowest-k.ensures.within c.one-rest.ensures (inr refl)
+
+pub loop-rest-preserved : goal.loop-rest-preserved
+loop-rest-preserved c = choosing_more c.lowest-k.result c.one-rest.result _ c.loop-rest.invariant c.lowest-k.ensures.within c.one-rest.ensures (inl refl)
+
+pub returns : goal.returns
+returns c = c.loop-rest.invariant.chosen

@@ -1,10 +1,8 @@
-use Rattle.std.proofs.Common.{◌≡◌}
-use Rattle.std.specs.List.{All}
-use Rattle.ranking.specs.Sets.{bit}
+use Rattle.endgame.proofs.Threats.{Choosing}
 use Rattle.endgame.proofs.search.best.Given as goal
 
-abbrev pub invariant-loop-cell : goal.invariant-loop-cell
-invariant-loop-cell l = record {
-  chosen : bit l.best l.must ≡ 1;
-  inside : All (λ k. bit k l.must ≡ 1) l.cell-iterator;
-}
+abbrev pub invariant-loop-rest : goal.invariant-loop-rest
+invariant-loop-rest l = Choosing l.must l.best l.rest
+
+abbrev pub decreases-loop-rest : goal.decreases-loop-rest
+decreases-loop-rest l = l.rest
