@@ -1,8 +1,6 @@
 -- The cells of a set as a list, from the lowest.
 use Rattle.std.proofs.Common.{◌≡◌, ℕ, zero, suc, ◌+◌, ◌-◌, ◌/◌, ◌%◌, ◌^◌, ◌<◌, ◌≤◌, List, [], ◌∷◌, length, get_or, drop, refl, sym, ap, ◌∙◌, ⊎_elim, pow-suc, arith}
 use lib.Count.{count_trailing_zeros}
-use Rattle.std.specs.List.{All}
-use Rattle.std.proofs.lemmas.List.Elements.{All-nil, All-cons}
 use Rattle.std.proofs.lemmas.Bool.{cases_lt}
 use Rattle.ranking.specs.Sets.{bit, members_from, joined, members}
 use Rattle.ranking.proofs.Bits.{bit_none, cell_le, lowest_in, none_below}
@@ -32,20 +30,6 @@ members_first (suc w) k (suc c) x f h low =
 
 pub members_lowest : (c x : ℕ) → x < 2 ^ 64 → bit c x ≡ 1 → ((j : ℕ) → j < c → bit j x ≡ 0) → members x ≡ c ∷ members (x - 2 ^ c)
 members_lowest c x f h low = let same : 0 + c ≡ c = omega arith in rw same at (members_first 64 0 c x f h low)
-
--- Each cell in the list is in the set.
-all_in : (w k x z : ℕ) → ((j : ℕ) → bit j x ≡ bit (k + j) z) → All (λ c. bit c z ≡ 1) (members_from w k x)
-unfolding members_from joined bit
-all_in zero k x z same = All-nil _
-all_in (suc w) k x z same = here (x % 2) refl (all_in w (suc k) (x / 2) z (λ j. let next : suc k + j ≡ k + suc j = omega arith in rw next (same (suc j))))
-  where
-    here : (d : ℕ) → x % 2 ≡ d → All (λ c. bit c z ≡ 1) (members_from w (suc k) (x / 2)) → All (λ c. bit c z ≡ 1) (joined d k (members_from w (suc k) (x / 2)))
-    here zero e others = others
-    here (suc zero) e others = All-cons (λ c. bit c z ≡ 1) k (members_from w (suc k) (x / 2)) (let at : k + 0 ≡ k = omega arith in (rw at at (sym (same 0))) ∙ e) others
-    here (suc (suc d)) e others = absurd (omega arith)
-
-pub members_in : (x : ℕ) → All (λ c. bit c x ≡ 1) (members x)
-members_in x = all_in 64 0 x x (λ j. let same : 0 + j ≡ j = omega arith in rw same refl)
 
 -- A set with no cell in the list is empty.
 pub members_empty : (x : ℕ) → x < 2 ^ 64 → members x ≡ [] → x ≡ 0
