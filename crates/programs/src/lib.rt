@@ -139,11 +139,7 @@ pub fn serve_input<P: Printing>(
         let line = line?;
         out.clear();
         // The clock is read only where times are told.
-        let start = if timed {
-            Some(Instant::now(rt)?)
-        } else {
-            None
-        };
+        let start = if timed { Some(Instant::now(rt)?) } else { None };
         let served = answer_line(heap, limits, &mut desk, line.as_slice(), &mut out)?;
         let took = match start {
             Some(start) => Some(start.elapsed(rt)?),
