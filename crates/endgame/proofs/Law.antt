@@ -3,7 +3,7 @@ use Rattle.std.proofs.Common.{◌≡◌, ℕ, ◌^◌, ◌<◌, true, ◌≢◌,
 use Rattle.std.proofs.lemmas.Bool.{false≢true}
 use Rattle.hexboard.specs.Board.{Board, at, next_to, begins, ends, goes_on, is_way, Connects}
 use Rattle.hexboard.specs.Rows.{Chain, here, step, Stone, Row}
-use Rattle.hexboard.proofs.Neighbours.{next_symmetric}
+use Rattle.hexboard.proofs.Adjacent.{next_symmetric}
 use Rattle.groups.proofs.Chains.{first_own, last_own, and_then, turned, carried}
 use Rattle.groups.proofs.Ways.{goes_along}
 use Rattle.theorems.proofs.Stones.{Side}

@@ -9,7 +9,7 @@ use Rattle.hexboard.specs.Geometry.{neighbour_of, touch, laid}
 use Rattle.hexboard.specs.Promise.{Good}
 use Rattle.hexboard.specs.Rows.{Stone}
 use Rattle.hexboard.proofs.Boards.{length_all_cells, good_set, good_empty}
-use Rattle.hexboard.proofs.Neighbours.{neighbour_next, neighbour_all, next_symmetric, next_apart}
+use Rattle.hexboard.proofs.Adjacent.{neighbour_next, neighbour_all, next_symmetric, next_apart}
 use Rattle.groups.specs.Forest.{Forest, parent, place, lift}
 use Rattle.groups.specs.Moves.{Position, count_from, bare, start, moved, played, is_free, is_fair, position_of, board_of, turn_of, forest_of, Legal}
 use Rattle.groups.proofs.Placing.{Grouped, adopt_alike, placed_top, placed_groups, growing_ends}

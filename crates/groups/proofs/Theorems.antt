@@ -3,7 +3,7 @@ use Rattle.std.proofs.Common.{◌≡◌, ℕ, ◌*◌, ◌%◌, Bool, true, eqb,
 use Rattle.std.proofs.lemmas.Bool.Decides.{Decides-like, Decides-at, Decides-eqb}
 use Rattle.hexboard.specs.Board.{other, Connects}
 use Rattle.hexboard.specs.Geometry.{laid}
-use Rattle.hexboard.proofs.Neighbours.{next_symmetric}
+use Rattle.hexboard.proofs.Adjacent.{next_symmetric}
 use Rattle.groups.specs.Forest.{Forest, root, place, lift}
 use Rattle.groups.specs.Moves.{Position, start, moved, is_free, position_of, board_of, turn_of, forest_of, Legal, HeldAround}
 use Rattle.groups.specs.Meaning.{JustIf, Both, Together, Joined, Open, OneByteDecides, BackAgain, KeptOnce}

@@ -5,7 +5,7 @@ use Rattle.std.proofs.lemmas.Bool.Decides.{nat_tests}
 use Rattle.hexboard.specs.Board.{Board, at, next_to, begins, ends, goes_on, is_way, Connects}
 use Rattle.hexboard.specs.Rows.{here, step, Stone, Row}
 use Rattle.hexboard.specs.Geometry.{touch}
-use Rattle.hexboard.proofs.Neighbours.{touch_first, touch_last, touch_few}
+use Rattle.hexboard.proofs.Adjacent.{touch_first, touch_last, touch_few}
 use Rattle.groups.specs.Meaning.{JustIf}
 use Rattle.groups.proofs.Chains.{first_own}
 use Rattle.groups.proofs.Marks.{Has}

@@ -11,7 +11,7 @@ ghost use Rattle.groups.specs.Lent.{before, after};
 ghost use Rattle.groups.specs.Meaning.{Together, Joined, OneByteDecides, BackAgain, KeptOnce};
 ghost use Rattle.groups.specs.Meaning.{OneMore, OneFewer, TellsRows, TellsWinner};
 
-use hexboard::{Side, Size};
+use hexboard::{Neighbours, Side, Size};
 
 // The groups of a board in lent memory. Each stone has a parent in its group, a later stone, or is the group's root: its last stone,
 // which is its own parent. `parents` holds two bytes for each cell, low byte first. `borders` holds a byte for each cell, whose bits
@@ -42,10 +42,7 @@ impl Groups<'_> {
     {
         let Groups { parents, borders } = self;
         write(borders, cell, hexboard::borders(size, side, cell));
-        for k in 0..hexboard::directions() {
-            let Some(near) = hexboard::neighbour(size, cell, k) else {
-                continue;
-            };
+        for near in Neighbours::of(size, cell) {
             if hexboard::stone(cells, near) == Some(side) {
                 let top = root(parents, near);
                 Groups { parents, borders }.join(top, cell);

@@ -1,4 +1,5 @@
 pub mod Boards
-pub mod Neighbours
+pub mod Adjacent
+pub mod Given
 pub mod Pairs
 pub mod TwoBytes

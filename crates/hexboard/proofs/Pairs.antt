@@ -1,5 +1,5 @@
 -- Two stones of one side next to each other: what a search for the first of them knows.
-use Rattle.std.proofs.Common.{◌≡◌, ℕ, ◌+◌, ◌*◌, ◌≤◌, Some, None, sym, ap, ◌∙◌, arith, below_more}
+use Rattle.std.proofs.Common.{◌≡◌, ℕ, ◌+◌, ◌*◌, ◌≤◌, Some, None, sym, refl, ap, ◌∙◌, arith, below_more}
 use Rattle.std.proofs.lemmas.Bool.Decides.{nat_tests}
 use Rattle.hexboard.specs.Board.{Board, at}
 use Rattle.hexboard.specs.Geometry.{neighbour_of}
@@ -8,12 +8,17 @@ use Rattle.hexboard.specs.Sides.{number, by_number}
 use Rattle.hexboard.specs.declared.side.Side.{Side}
 use Rattle.hexboard.specs.declared.side.Side.TheVariants.{One, Two}
 use Rattle.hexboard.proofs.Boards.{number_few}
-use Rattle.hexboard.proofs.Neighbours.{neighbour_all, neighbour_beside}
+use Rattle.hexboard.proofs.Adjacent.{neighbour_all, neighbour_beside}
 
 -- A cell on which a side's stone is read holds that side's number.
 pub stone_number : (s : Side) (a : ℕ) → Some s ≡ by_number a → a ≡ number s
 stone_number One a h = grind (arith, nat_tests)
 stone_number Two a h = grind (arith, nat_tests)
+
+-- The number of a side is read as its stone.
+pub number_stone : (s : Side) (a : ℕ) → a ≡ number s → Some s ≡ by_number a
+number_stone One a e = rw e refl
+number_stone Two a e = rw e refl
 
 -- The search passes a cell without a stone,
 pub below_empty : (b : Board) (i : ℕ) → None ≡ by_number (at b i) → NoPairBelow b i → NoPairBelow b (i + 1)

@@ -1,5 +1,6 @@
 -- The six neighbours of a cell and the borders it touches, as functions that code can follow step by step.
-use Rattle.std.specs.Prelude.{◌≡◌, ℕ, ◌+◌, ◌*◌, ◌/◌, ◌%◌, ◌<◌, true, ◌&&◌, List, ℤ, pos, negsuc, ◌+ℤ◌, Some, None, Option, ◌==◌, nat_lt}
+use Rattle.std.specs.Prelude.{◌≡◌, ℕ, zero, suc, ◌+◌, ◌-◌, ◌*◌, ◌/◌, ◌%◌, ◌<◌, true, ◌&&◌, List, [], ◌∷◌, ℤ, pos, negsuc, ◌+ℤ◌, Some, None, Option, ◌==◌, nat_lt}
+use Rattle.std.specs.List.{cons_option}
 use Rattle.hexboard.specs.Board.{pick, Board, next_to, begins, ends}
 
 -- the cell in row r and column c of a board n wide and n tall, where it has one; a step can lead before the first row or column
@@ -28,6 +29,18 @@ toward n r c (Some (down, right)) = cell_of n (pos r +ℤ down) (pos c +ℤ righ
 -- the k-th neighbour of cell i. None where the board ends there, for a cell that is not on the board, and from k = 6 on
 unfoldable pub neighbour_of : ℕ → ℕ → ℕ → Option ℕ
 neighbour_of n i k = pick (nat_lt i (n * n)) (toward n (i / n) (i % n) (step_to k)) None
+
+-- the cells that there are among those that `next` may give for k and the m - 1 numbers after it
+unfoldable pub given : (ℕ → Option ℕ) → ℕ → ℕ → List ℕ
+given next k zero = []
+given next k (suc m) = cons_option (next k) (given next (suc k) m)
+
+-- the neighbours of cell i from the k-th on, and all of them, in the order of `neighbour_of`
+abbrev pub neighbours_from : ℕ → ℕ → ℕ → List ℕ
+neighbours_from n i k = given (neighbour_of n i) k (6 - k)
+
+abbrev pub neighbours : ℕ → ℕ → List ℕ
+neighbours n i = neighbours_from n i 0
 
 -- cell j is on the board next to cell i
 pub record Beside (n i j : ℕ) : Type 0 where

@@ -1,11 +1,14 @@
 // Which cells are next to each other, and which borders of a side a cell touches.
 ghost use Rattle.std.specs.Prelude.{◌≡◌, ℕ, ◌/◌, ◌%◌, ◌<◌, IfSome, Some, Decides};
+ghost use Rattle.std.specs.Iterator.{YieldsFirst, item_count};
 ghost use Rattle.hexboard.specs.Board.{next_to, begins, ends};
-ghost use Rattle.hexboard.specs.Geometry.{cell_of, step_to, neighbour_of, Beside, AllNeighbours, touch};
+ghost use Rattle.hexboard.specs.Geometry.{cell_of, step_to, neighbour_of, neighbours, Beside, AllNeighbours, touch};
 ghost use Rattle.hexboard.specs.Sides.{number};
 
 use crate::side::Side;
 use crate::size::Size;
+use std::marker::Model;
+use std::ops::Range;
 
 // The step toward the k-th neighbour of a cell, as rows down and columns to the right: to the right, to the left, below, above,
 // up and to the right, down and to the left. There are six.
@@ -48,6 +51,49 @@ pub fn neighbour(size: Size, cell: u16, k: u8) -> Option<u16>
     cell_on(size, row, column)
 }
 
+// The cells that are next to a cell, one after the other in the order of `neighbour`: seen as the list of those that are left.
+#[derive(Drop)]
+pub struct Neighbours {
+    size: Size,
+    cell: u16,
+    directions: Range<u8>,
+}
+
+impl Model for Neighbours {
+    ghost use Rattle.std.specs.Prelude.{ℕ, ◌-◌, List};
+    ghost use Rattle.hexboard.specs.Geometry.{neighbour_of, given};
+
+    ghost Value = { List ℕ };
+
+    ghost view = { λ it. given (neighbour_of it.size.n it.cell) it.directions.start (it.directions.end - it.directions.start) };
+}
+
+impl Neighbours {
+    // The neighbours of a cell; none of a cell that is not on the board.
+    pub fn of(size: Size, cell: u16) -> Neighbours
+        ensures { result ≡ neighbours size.n cell }
+    {
+        Neighbours {
+            size,
+            cell,
+            directions: 0..directions(),
+        }
+    }
+}
+
+impl Iterator for Neighbours {
+    type Item = u16;
+
+    ghost next_gives = { YieldsFirst (λ rest. rest) };
+
+    ghost remaining = { item_count (λ rest. rest) };
+
+    fn next(&mut self) -> Option<u16> {
+        let (size, cell) = (self.size, self.cell);
+        self.directions.find_map(|k| neighbour(size, cell, k))
+    }
+}
+
 // How many directions a neighbour can lie in. The neighbours for k below this are all the cells that are next to a cell.
 pub fn directions() -> u8
     ensures value { result ≡ 6 }
@@ -77,6 +123,7 @@ pub fn borders(size: Size, side: Side, cell: u16) -> u8
 #[cfg(test)]
 mod tests {
     use super::*;
+    use std::array;
     use std::test::Fail;
 
     // Which cells of the 3 by 3 board are next to each other: a row for each cell, 1 for each cell that is next to it.
@@ -93,21 +140,11 @@ mod tests {
     ];
 
     fn board(n: u16) -> Result<Size, Fail> {
-        match Size::new(n) {
-            Some(size) => Ok(size),
-            None => Err(Fail::new("no board is so wide")),
-        }
+        Size::new(n).ok_or(Fail::new("no board is so wide"))
     }
 
     fn six(size: Size, cell: u16) -> [Option<u16>; 6] {
-        [
-            neighbour(size, cell, 0),
-            neighbour(size, cell, 1),
-            neighbour(size, cell, 2),
-            neighbour(size, cell, 3),
-            neighbour(size, cell, 4),
-            neighbour(size, cell, 5),
-        ]
+        array::from_fn(|k| neighbour(size, cell, k as u8))
     }
 
     #[test]

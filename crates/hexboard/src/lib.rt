@@ -7,8 +7,8 @@ mod size;
 mod stones;
 mod words;
 
-pub use geometry::{borders, directions, neighbour};
+pub use geometry::{Neighbours, borders, directions, neighbour};
 pub use side::{NoSide, Side};
 pub use size::Size;
 pub use stones::{Unplaced, clear, count_empty, first_pair, lift, place, stone};
-pub use words::{set_word, word};
+pub use words::{Words, set_word, word};

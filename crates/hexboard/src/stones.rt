@@ -6,7 +6,7 @@ ghost use Rattle.hexboard.specs.Promise.{Good};
 ghost use Rattle.hexboard.specs.Sides.{number};
 ghost use Rattle.hexboard.specs.Stones.{stone_at, placing, placed, NoPair, FirstPair};
 
-use crate::geometry::{directions, neighbour};
+use crate::geometry::Neighbours;
 use crate::side::Side;
 use crate::size::Size;
 
@@ -84,10 +84,7 @@ pub fn first_pair(size: Size, cells: &[u8]) -> Option<(u16, u16)>
         let Some(side) = stone(cells, i) else {
             continue 'cells;
         };
-        for k in 0..directions() {
-            let Some(j) = neighbour(size, i, k) else {
-                continue;
-            };
+        for j in Neighbours::of(size, i) {
             if stone(cells, j) == Some(side) {
                 found = Some((i, j));
                 break 'cells;
@@ -104,9 +101,7 @@ mod tests {
 
     #[test]
     fn first_two(rt: HostRuntime) -> Result<(), Fail> {
-        let Some(size) = Size::new(3) else {
-            return Err(Fail::new("no board is 3 wide"));
-        };
+        let size = Size::new(3).ok_or(Fail::new("no board is 3 wide"))?;
         let mut cells = [0; 9];
         place(&mut cells, Side::One, 8)?;
         place(&mut cells, Side::Two, 4)?;

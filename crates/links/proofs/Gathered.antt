@@ -5,16 +5,16 @@ use Rattle.std.specs.Option.{option_map}
 use Rattle.std.proofs.lemmas.List.{length-set, length-replicate, get_or-set_same, get_or-set_other, set_past}
 use Rattle.std.proofs.lemmas.Bool.{cases_eq, cases_lt, eq-eqb, ne_eqb}
 use Rattle.hexboard.specs.Board.{pick, Board, at, other, next_to}
-use Rattle.hexboard.specs.Geometry.{neighbour_of}
+use Rattle.hexboard.specs.Geometry.{neighbour_of, touch}
 use Rattle.hexboard.specs.Rows.{Stone}
-use Rattle.hexboard.proofs.Neighbours.{neighbour_next, neighbour_all}
+use Rattle.hexboard.proofs.Adjacent.{neighbour_next, neighbour_all}
 use Rattle.groups.specs.Forest.{root}
 use Rattle.groups.proofs.Placing.{stone_here}
 use Rattle.ranking.specs.Sets.{bit}
 use Rattle.ranking.proofs.Bits.{bit_none, bit_one, in_or, or_left, or_right}
-use Rattle.links.specs.Gathering.{over, enter, entered_at, entered_all, gathered, joined_at}
+use Rattle.links.specs.Gathering.{over, enter, entered_at, entered_all, gathered, joined_at, by_root}
 
--- Nothing has been looked at, or one more.
+-- Nothing has been looked at, or one more may be.
 pub over_none : {S : Type 0} (look : Option ℕ → S → S) (next : ℕ → Option ℕ) (s : S) → s ≡ over look next 0 s
 unfolding over
 over_none look next s = refl
@@ -34,42 +34,37 @@ pub gathered_more : (b : Board) (w : ℕ) (ps es : List ℕ) (m cell : ℕ) (now
 unfolding gathered
 gathered_more b w ps es m cell now new e is t = rw add-one (t ∙ ap₂ (entered_all b w ps m) is e)
 
--- What is done with what lies next to a cell, which is a stone or none and the root of its group.
-abbrev pub entered_by : ℕ → ℕ → Option (ℕ × ℕ) → List ℕ → List ℕ
-entered_by w k None sets = sets
-entered_by w k (Some (stone, r)) sets = pick (eqb stone w) (enter k r sets) sets
+-- Where the board ends there is nothing to look at,
+pub over_end : {S : Type 0} (look : Option ℕ → S → S) → ((s : S) → s ≡ look None s) → (next : ℕ → Option ℕ) (m : ℕ) (s now : S) → next m ≡ None →
+    now ≡ over look next m s → now ≡ over look next (m + 1) s
+over_end look idle next m s now none so_far = over_more look next m s now now so_far (idle now ∙ ap (λ o. look o now) (sym none))
 
-abbrev pub joined_by : ℕ → (ℕ → ℕ) → Option (ℕ × ℕ) → ℕ → ℕ
-joined_by w f None x = x
-joined_by w f (Some (stone, r)) x = pick (eqb stone (other w)) x (bit_or x (f r))
+-- else at the neighbour.
+pub over_met : {S : Type 0} (look : Option ℕ → S → S) (next : ℕ → Option ℕ) (m : ℕ) (s now new : S) (p : ℕ) → next m ≡ Some p →
+    now ≡ over look next m s → new ≡ look (Some p) now → new ≡ over look next (m + 1) s
+over_met look next m s now new p is so_far t = over_more look next m s now new so_far (t ∙ ap (λ o. look o now) (sym is))
 
-module _ (b : Board) (w : ℕ) (ps : List ℕ) where
-  -- what stands there, and its root
-  abbrev pub found : Option ℕ → Option (ℕ × ℕ)
-  found o = option_map (λ p. (at b p, root ps p)) o
+-- The first m neighbours of cell i have been looked at: what is near and which borders are touched is joined so far.
+pub record Looked (b : Board) (w : ℕ) (ps sets bs : List ℕ) (i near borders m : ℕ) : Type 0 where
+  pub joined : near ≡ over (joined_at b w ps (by_root sets)) (neighbour_of b.wide i) m 0
+  pub touched : borders ≡ over (joined_at b w ps (by_root bs)) (neighbour_of b.wide i) m (touch b.wide w i)
 
-  -- So one more is looked at.
-  looked_more : {S : Type 0} (look : Option ℕ → S → S) (by : Option (ℕ × ℕ) → S → S) → ((o : Option ℕ) (s : S) → by (found o) s ≡ look o s) →
-      (i m : ℕ) (near : Option (ℕ × ℕ)) (s now new : S) → now ≡ over look (neighbour_of b.wide i) m s → near ≡ found (neighbour_of b.wide i m) →
-      new ≡ by near now → new ≡ over look (neighbour_of b.wide i) (m + 1) s
-  looked_more look by same i m near s now new so_far e t =
-      over_more look (neighbour_of b.wide i) m s now new so_far (t ∙ ap (λ n. by n now) e ∙ same (neighbour_of b.wide i m) now)
+module _ (b : Board) (w : ℕ) (ps sets bs : List ℕ) (i near borders m : ℕ) where
+  pub looked_end : neighbour_of b.wide i m ≡ None → Looked b w ps sets bs i near borders m → Looked b w ps sets bs i near borders (m + 1)
+  looked_end none l = record { joined = over_end _ (λ x. refl) _ m _ _ none l.joined; touched = over_end _ (λ x. refl) _ m _ _ none l.touched }
 
-  pub entered_more : (k i m : ℕ) (near : Option (ℕ × ℕ)) (s now new : List ℕ) → now ≡ over (entered_at b w ps k) (neighbour_of b.wide i) m s →
-      near ≡ found (neighbour_of b.wide i m) → new ≡ entered_by w k near now → new ≡ over (entered_at b w ps k) (neighbour_of b.wide i) (m + 1) s
-  entered_more k = looked_more (entered_at b w ps k) (entered_by w k) same
-    where
-      same : (o : Option ℕ) (sets : List ℕ) → entered_by w k (found o) sets ≡ entered_at b w ps k o sets
-      same None sets = refl
-      same (Some p) sets = refl
+  module _ (p : ℕ) (is : neighbour_of b.wide i m ≡ Some p) (l : Looked b w ps sets bs i near borders m) where
+    -- A stone of the other side brings nothing,
+    pub looked_theirs : at b p ≡ other w → Looked b w ps sets bs i near borders (m + 1)
+    looked_theirs theirs =
+        let same = eq-eqb (at b p) (other w) theirs in
+        record { joined = over_met _ _ _ _ _ _ _ is l.joined (rw same refl); touched = over_met _ _ _ _ _ _ _ is l.touched (rw same refl) }
 
-  pub joined_more : (f : ℕ → ℕ) (i m : ℕ) (near : Option (ℕ × ℕ)) (s now new : ℕ) → now ≡ over (joined_at b w ps f) (neighbour_of b.wide i) m s →
-      near ≡ found (neighbour_of b.wide i m) → new ≡ joined_by w f near now → new ≡ over (joined_at b w ps f) (neighbour_of b.wide i) (m + 1) s
-  joined_more f = looked_more (joined_at b w ps f) (joined_by w f) same
-    where
-      same : (o : Option ℕ) (x : ℕ) → joined_by w f (found o) x ≡ joined_at b w ps f o x
-      same None x = refl
-      same (Some p) x = refl
+    -- and what else is there brings what its root has.
+    pub looked_ours : (at b p ≡ other w → ⊥) → Looked b w ps sets bs i (bit_or near (get_or sets (root ps p) 0)) (bit_or borders (get_or bs (root ps p) 0)) (m + 1)
+    looked_ours ours =
+        let apart = ne_eqb (at b p) (other w) ours in
+        record { joined = over_met _ _ _ _ _ _ _ is l.joined (rw apart refl); touched = over_met _ _ _ _ _ _ _ is l.touched (rw apart refl) }
 
 -- p is one of the first m that lie next to a cell
 abbrev pub Among : (ℕ → Option ℕ) → ℕ → ℕ → Type 0

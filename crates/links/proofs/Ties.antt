@@ -8,7 +8,7 @@ use Rattle.hexboard.specs.Geometry.{neighbour_of, touch}
 use Rattle.hexboard.specs.Promise.{Good}
 use Rattle.hexboard.specs.Rows.{Stone}
 use Rattle.hexboard.proofs.Boards.{good_at}
-use Rattle.hexboard.proofs.Neighbours.{neighbour_next, neighbour_all, next_symmetric}
+use Rattle.hexboard.proofs.Adjacent.{neighbour_next, neighbour_all, next_symmetric}
 use Rattle.groups.specs.Forest.{Forest, root}
 use Rattle.groups.proofs.Chains.{first_own, last_own, and_then}
 use Rattle.groups.proofs.Climbs.{climb_root}

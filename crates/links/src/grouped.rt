@@ -16,12 +16,8 @@ pub struct Grouped<'a> {
 
 impl Grouped<'_> {
     ghost use Rattle.std.specs.Prelude.{◌<◌, MatchOption};
-    ghost use Rattle.std.specs.Option.{option_map};
-    ghost use Rattle.hexboard.specs.Board.{at, empties};
-    ghost use Rattle.hexboard.specs.Geometry.{neighbour_of};
-    ghost use Rattle.groups.specs.Forest.{root};
+    ghost use Rattle.hexboard.specs.Board.{empties};
     ghost use Rattle.links.specs.Cells.{Lists};
-    ghost use Rattle.links.specs.Grouped.{board, parents};
 
     // The empty cells in their order, or none if there are more than 16.
     pub fn number(&self) -> Option<ArrayVec<u16, 16>>
@@ -34,14 +30,5 @@ impl Grouped<'_> {
             }
         }
         Some(cells)
-    }
-
-    // What lies next to a cell in a direction: what the neighbour holds, and the root of its group. It holds a byte here and no side, as
-    // what is gathered is defined by what a board holds.
-    pub(crate) fn beside(&self, cell: u16, direction: u8) -> Option<(u8, u16)>
-        ensures { result ≡ option_map (λ p. (at (board self.now) p, root (parents self.now) p)) (neighbour_of self.now.size.n cell direction) }
-    {
-        let near = hexboard::neighbour(self.size, cell, direction)?;
-        Some((self.stones[near as usize], groups::root(self.parents, near)))
     }
 }

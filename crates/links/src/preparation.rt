@@ -9,7 +9,7 @@ ghost use Rattle.links.specs.Prepared.{Prepared};
 use crate::grouped::Grouped;
 use arrayvec::ArrayVec;
 use endgame::Links;
-use hexboard::Side;
+use hexboard::{Neighbours, Side};
 use ranking::one;
 
 // What lies around an empty cell: the empty cells next to it, directly or through stones of the side, and the borders that it
@@ -56,14 +56,9 @@ impl Grouped<'_> {
         ensures { sets.new ≡ entered_all (board self.now) (number side) (parents self.now) k cell sets.old }
     {
         enter(sets, cell, k);
-        // A loop here and one in `look_around`, and no walk that takes a closure: of what a closure changes, as the sets here, nothing
-        // is known after the walk.
-        for direction in 0..6 {
-            let Some((stone, root)) = self.beside(cell, direction) else {
-                continue;
-            };
-            if stone == u8::from(side) {
-                enter(sets, root, k);
+        for near in Neighbours::of(self.size, cell) {
+            if hexboard::stone(self.stones, near) == Some(side) {
+                enter(sets, groups::root(self.parents, near), k);
             }
         }
     }
@@ -77,11 +72,9 @@ impl Grouped<'_> {
             near: 0,
             borders: hexboard::borders(self.size, side, cell),
         };
-        for direction in 0..6 {
-            let Some((stone, root)) = self.beside(cell, direction) else {
-                continue;
-            };
-            if stone != u8::from(side.opponent()) {
+        for near in Neighbours::of(self.size, cell) {
+            if hexboard::stone(self.stones, near) != Some(side.opponent()) {
+                let root = groups::root(self.parents, near);
                 all.near |= read(sets, root);
                 all.borders |= groups::touched(self.borders, root);
             }
@@ -96,7 +89,7 @@ fn enter(sets: &mut [u64], place: u16, k: u32)
     requires { k < 64 }
     ensures { sets.new ≡ enter k place sets.old }
 {
-    let at = place as usize;
+    let at = usize::from(place);
     // Not `get_mut`: of a slice after it no more is known than its length.
     if at < sets.len() {
         sets[at] |= one(k);
@@ -107,7 +100,7 @@ fn enter(sets: &mut [u64], place: u16, k: u32)
 fn read(sets: &[u64], place: u16) -> u64
     ensures { result ≡ slice_index sets.now place }
 {
-    sets.get(place as usize).copied().unwrap_or(0)
+    sets.get(usize::from(place)).copied().unwrap_or(0)
 }
 
 // The set with the k-th cell in it, if the lowest of the bits is set.

@@ -3,7 +3,7 @@ use Rattle.std.proofs.Common.{◌≡◌, ℕ, ◌*◌, ◌<◌, ◌≤◌, true,
 use Rattle.std.proofs.lemmas.Bool.{and_parts, ltb-true}
 use Rattle.hexboard.specs.Board.{Board, at, next_to, begins, goes_on, is_way, Connects}
 use Rattle.hexboard.specs.Geometry.{laid, neighbour_of}
-use Rattle.hexboard.proofs.Neighbours.{next_symmetric, neighbour_all}
+use Rattle.hexboard.proofs.Adjacent.{next_symmetric, neighbour_all}
 use Rattle.hexboard.proofs.TwoBytes.{words_length}
 use Rattle.paths.specs.declared.frontier.Frontier.{Frontier}
 use Rattle.paths.specs.Grounds.{HasRoom}

@@ -9,7 +9,7 @@ ghost use Rattle.paths.specs.Search.{Met, Sowing};
 
 use crate::frontier::Frontier;
 use crate::ground::Ground;
-use hexboard::{directions, neighbour};
+use hexboard::Neighbours;
 
 // Whether a cell is to be listed: a stone of the side stands there, and it is not reached yet.
 fn is_fresh(ground: &Ground, frontier: &Frontier, cell: u16) -> bool
@@ -52,10 +52,7 @@ pub fn search(ground: &Ground, frontier: &mut Frontier) -> Option<u16>
     // label: the one place where this project has such loops run (docs/DECISIONS.md).
     let mut head = 0;
     'search: while let Some(cell) = frontier.listed(head) {
-        for k in 0..directions() {
-            let Some(next) = neighbour(ground.size, cell, k) else {
-                continue;
-            };
+        for next in Neighbours::of(ground.size, cell) {
             if !is_fresh(ground, frontier, next) {
                 continue;
             }

@@ -1,43 +1,36 @@
-use Rattle.std.proofs.Common.{◌≡◌, ℕ, Some, sym, refl, ◌∙◌, arith}
+use Rattle.std.proofs.Common.{◌≡◌, ℕ, ◌+◌, Some, None, sym, refl, ◌∙◌, arith}
 use Rattle.hexboard.specs.Geometry.{neighbour_of}
 use Rattle.hexboard.specs.Sides.{number, by_number}
 use Rattle.hexboard.specs.declared.side.Side.{Side}
 use Rattle.hexboard.specs.declared.side.Side.TheVariants.{One, Two}
-use Rattle.hexboard.proofs.Pairs.{stone_number}
+use Rattle.hexboard.proofs.Pairs.{stone_number, number_stone}
+use Rattle.hexboard.proofs.Given.{upto_start, upto_next, upto_end}
 use Rattle.groups.specs.Forest.{held}
 use Rattle.groups.specs.Lent.{before}
 use Rattle.groups.proofs.Placing.{adopt_none, adopt_end, adopt_stone, adopt_other}
 use Rattle.groups.proofs.Theorems.{memory_grows}
 use Rattle.groups.proofs.Groups.place.Goals as goal
-use Rattle.groups.proofs.Groups.place.Goals.{then-eq, else-eq}
 
-pub loop-k-init : goal.loop-k-init
-loop-k-init c = adopt_none _ _ _ _ _
+pub loop-near-init : goal.loop-near-init
+loop-near-init c = upto_start _ _ _ (c.into_iter-near-iterator.ensures.into_iter_gives ∙ c.of-near-items.ensures) (adopt_none _ _ _ _ _)
 
-pub loop-k-preserved-in_default : goal.loop-k-preserved-in_default
-loop-k-preserved-in_default c =
-    adopt_end _ _ _ (neighbour_of c.args.size.n c.args.cell) _ _ _ c.loop-k.invariant (sym c.in_default.ensures.value)
+pub loop-near-preserved-then-eq : goal.loop-near-preserved-then-eq
+loop-near-preserved-then-eq c =
+    let is : Some c.args.side ≡ c.stone.result = grind arith in
+    let there = upto_next _ (λ k none so_far. adopt_end _ _ _ _ _ _ _ so_far none) c.in-Some.ensures.steps c.loop-near.invariant in
+    there.3 _ (adopt_stone _ _ _ _ _ _ _ there.2 _ _ _ there.1 (stone_number c.args.side _ (is ∙ c.stone.ensures.value)) c.root-top.ensures c.join.ensures)
 
--- The number of a side is read as its stone.
-number_stone : (s : Side) (a : ℕ) → a ≡ number s → Some s ≡ by_number a
-number_stone One a e = rw e refl
-number_stone Two a e = rw e refl
+pub loop-near-preserved : goal.loop-near-preserved
+loop-near-preserved c =
+    let isnt : Some c.args.side ≡ c.stone.result → ⊥ = λ e. grind arith in
+    let there = upto_next _ (λ k none so_far. adopt_end _ _ _ _ _ _ _ so_far none) c.in-Some.ensures.steps c.loop-near.invariant in
+    there.3 _ (adopt_other _ _ _ _ _ _ _ there.2 _ there.1 (λ e. isnt (number_stone c.args.side _ e ∙ sym c.stone.ensures.value)))
 
-pub loop-k-preserved : goal.loop-k-preserved
-loop-k-preserved c =
-    elim c.if-eq.branch [
-      | then-eq w ↦
-          let is : Some c.args.side ≡ c.stone.result = grind arith in
-          (λ i. held (w.parents-is i) (w.borders-is i))
-          ∙ adopt_stone _ _ _ (neighbour_of c.args.size.n c.args.cell) _ _ _ c.loop-k.invariant _ _ _ (sym c.in-Some.ensures.value)
-          (stone_number c.args.side _ (is ∙ c.stone.ensures.value)) w.root-top.ensures w.join.ensures
-      | else-eq w ↦
-          let isnt : Some c.args.side ≡ c.stone.result → ⊥ = λ e. grind arith in
-          (λ i. held (w.parents-is i) (w.borders-is i))
-          ∙ adopt_other _ _ _ (neighbour_of c.args.size.n c.args.cell) _ _ _ c.loop-k.invariant _ (sym c.in-Some.ensures.value)
-          (λ e. isnt (number_stone c.args.side _ e ∙ sym c.stone.ensures.value))
-    ]
+pub returns-clause-value : goal.returns-clause-value
+returns-clause-value c =
+    let all = upto_end _ (λ k none so_far. adopt_end _ _ _ _ _ _ _ so_far none) c.in-None.ensures.steps.0 c.loop-near.invariant in
+    grind arith
 
 pub returns-clause-grows : goal.returns-clause-grows
 returns-clause-grows c =
-    memory_grows c.args.size.n c.args.cells.now (number c.args.side) c.args.cell (before c.args.self) (held c.loop-k.parents c.loop-k.borders) (grind arith)
+    memory_grows c.args.size.n c.args.cells.now (number c.args.side) c.args.cell (before c.args.self) (held c.loop-near.parents c.loop-near.borders) (returns-clause-value c)

@@ -2,7 +2,7 @@ use Rattle.std.proofs.Common.{◌≡◌, ◌+◌, ◌*◌, arith}
 use Rattle.std.proofs.lemmas.Bool.Decides.{nat_tests}
 use Rattle.hexboard.specs.Geometry.{touch}
 use Rattle.hexboard.specs.Sides.{number}
-use Rattle.hexboard.proofs.Neighbours.{touch_first, touch_last, touch_few}
+use Rattle.hexboard.proofs.Adjacent.{touch_first, touch_last, touch_few}
 use Rattle.hexboard.proofs.geometry.borders.Goals as goal
 
 pub returns : goal.returns

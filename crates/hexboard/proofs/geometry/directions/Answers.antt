@@ -1,5 +1,5 @@
 use Rattle.std.proofs.Common.{refl}
-use Rattle.hexboard.proofs.Neighbours.{all_neighbours, neighbour_below, next_mutual}
+use Rattle.hexboard.proofs.Adjacent.{all_neighbours, neighbour_below, next_mutual}
 use Rattle.hexboard.proofs.geometry.directions.Goals as goal
 
 pub returns : goal.returns

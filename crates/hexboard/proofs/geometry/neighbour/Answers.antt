@@ -1,7 +1,7 @@
 use Rattle.std.proofs.Common.{◌≡◌, arith}
 use Rattle.std.proofs.lemmas.Bool.Decides.{nat_tests}
 use Rattle.hexboard.specs.Geometry.{neighbour_of}
-use Rattle.hexboard.proofs.Neighbours.{neighbour_cases}
+use Rattle.hexboard.proofs.Adjacent.{neighbour_cases}
 use Rattle.hexboard.proofs.geometry.neighbour.Goals as goal
 
 pub returns-then-cell-cells : goal.returns-then-cell-cells

@@ -1,36 +1,34 @@
-use Rattle.std.proofs.Common.{◌≡◌, ◌≤◌, Some, sym, ◌∙◌, arith}
-use Rattle.hexboard.specs.Board.{at}
-use Rattle.hexboard.specs.Geometry.{laid}
+use Rattle.std.proofs.Common.{◌≡◌, ℕ, ◌+◌, ◌≤◌, Some, None, sym, ◌∙◌, arith, lit<}
+use Rattle.hexboard.specs.Board.{Board, at}
+use Rattle.hexboard.specs.Geometry.{neighbour_of, laid}
 use Rattle.hexboard.specs.Sides.{by_number}
-use Rattle.hexboard.proofs.Pairs.{below_empty, below_alone, before_end, before_other, pair_is_first}
+use Rattle.hexboard.specs.Stones.{NoPairBefore}
+use Rattle.hexboard.proofs.Given.{upto_next, upto_end}
+use Rattle.hexboard.proofs.Pairs.{below_alone, before_end, before_other, pair_is_first}
 use Rattle.hexboard.proofs.stones.first_pair.Goals as goal
 
-pub cells-preserved-in_default : goal.cells-preserved-in_default
-cells-preserved-in_default c =
-    (c.cells.invariant.0, below_empty (laid c.args.size.n c.args.cells.now) c.cells.i c.in_default.ensures.value c.cells.invariant.1)
+pass : (b : Board) (i k : ℕ) → neighbour_of b.wide i k ≡ None → NoPairBefore b i k → NoPairBefore b i (k + 1)
+pass b i k none before = before_end b i k (sym none) before
 
-pub loop-k-preserved-in_default-neighbour : goal.loop-k-preserved-in_default-neighbour
-loop-k-preserved-in_default-neighbour c = (
-  c.loop-k.invariant.0,
-  before_end (laid c.args.size.n c.args.cells.now) c.cells.i c.loop-k.k c.in_default-neighbour.ensures.value c.loop-k.invariant.1,
-)
-
-pub loop-k-preserved : goal.loop-k-preserved
-loop-k-preserved c =
+pub loop-j-preserved : goal.loop-j-preserved
+loop-j-preserved c =
     let b = laid c.args.size.n c.args.cells.now in
-    let j = c.in-Some-neighbour.j in
+    let j = c.in-Some-j.j in
+    let there = upto_next (NoPairBefore b c.cells.i) (pass b c.cells.i) c.in-Some-j.ensures.steps c.loop-j.invariant.1 in
     let other : by_number (at b j) ≡ Some c.in-Some.side → ⊥ = λ e. grind arith in (
-      c.loop-k.invariant.0,
-      before_other b c.cells.i c.loop-k.k j c.in-Some.side c.in-Some.ensures.value other c.in-Some-neighbour.ensures.value c.loop-k.invariant.1,
+      c.loop-j.invariant.0,
+      there.3 (NoPairBefore b c.cells.i) (before_other b c.cells.i there.0 j c.in-Some.side c.in-Some.ensures.value other (sym there.1) there.2),
     )
 
 pub cells-preserved : goal.cells-preserved
 cells-preserved c =
-    let h : 6 ≤ c.loop-k.k = omega arith in
-    (c.loop-k.invariant.0, below_alone (laid c.args.size.n c.args.cells.now) c.cells.i c.loop-k.k h c.loop-k.invariant.1 c.cells.invariant.1)
+    let b = laid c.args.size.n c.args.cells.now in
+    let before = upto_end (NoPairBefore b c.cells.i) (pass b c.cells.i) c.in-None.ensures.steps.0 c.loop-j.invariant.1 in
+    (c.loop-j.invariant.0, below_alone b c.cells.i 6 (omega arith) before c.cells.invariant.1)
 
 pub returns-then-eq : goal.returns-then-eq
 returns-then-eq c =
+    let e : c.stone-in-loop-j.result ≡ Some c.in-Some.side = grind arith in
     let b = laid c.args.size.n c.args.cells.now in
-    let e : c.stone-in-loop-k.result ≡ Some c.in-Some.side = grind arith in
-    pair_is_first b c.cells.i c.loop-k.k c.in-Some-neighbour.j c.in-Some.side c.in-Some.ensures.value (sym e ∙ c.stone-in-loop-k.ensures.value) c.in-Some-neighbour.ensures.value c.cells.invariant.1 c.loop-k.invariant.1
+    let there = upto_next (NoPairBefore b c.cells.i) (pass b c.cells.i) c.in-Some-j.ensures.steps c.loop-j.invariant.1 in
+    pair_is_first b c.cells.i there.0 c.in-Some-j.j c.in-Some.side c.in-Some.ensures.value (sym e ∙ c.stone-in-loop-j.ensures.value) (sym there.1) c.cells.invariant.1 there.2

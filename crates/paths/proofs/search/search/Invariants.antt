@@ -1,6 +1,7 @@
 use Rattle.std.proofs.Common.{◌≡◌, ◌-◌, ◌*◌, None}
 use Rattle.hexboard.specs.Geometry.{neighbour_of}
 use Rattle.hexboard.specs.Words.{words}
+use Rattle.hexboard.proofs.Given.{Upto}
 use Rattle.paths.specs.Search.{Ahead}
 use Rattle.paths.specs.Grounds.{ground_of, HasRoom}
 use Rattle.paths.proofs.Fronts.{Looking}
@@ -14,12 +15,12 @@ invariant-search l =
       room : HasRoom l.frontier l.ground.size.n;
     }
 
-abbrev pub invariant-loop-k : goal.invariant-loop-k
-invariant-loop-k l =
+abbrev pub invariant-loop-next : goal.invariant-loop-next
+invariant-loop-next l =
+    let near = neighbour_of l.ground.size.n l.cell in
     record {
       none : l.found ≡ None;
-      looking : Looking (ground_of l.ground) (words l.frontier.queue.now) (words l.frontier.from.now) l.head l.frontier.count l.cell
-          (neighbour_of l.ground.size.n l.cell) l.k;
+      looking : Upto near 6 l.next-iterator (Looking (ground_of l.ground) (words l.frontier.queue.now) (words l.frontier.from.now) l.head l.frontier.count l.cell near);
       room : HasRoom l.frontier l.ground.size.n;
     }
 

@@ -1,23 +1,31 @@
-use Rattle.std.proofs.Common.{sym, ◌∙◌}
+use Rattle.std.proofs.Common.{◌≡◌, Some, sym, refl, ◌∙◌, arith}
 use Rattle.std.proofs.lemmas.Bool.{eq-eqb, ne_eqb}
+use Rattle.hexboard.specs.Board.{at}
 use Rattle.hexboard.specs.Sides.{number}
-use Rattle.links.specs.Grouped.{board, parents}
-use Rattle.links.proofs.Gathered.{over_none, entered_more}
+use Rattle.hexboard.proofs.Given.{upto_start, upto_next, upto_end}
+use Rattle.hexboard.proofs.Pairs.{stone_number, number_stone}
+use Rattle.links.specs.Grouped.{board}
+use Rattle.links.proofs.Gathered.{over_none, over_end, over_met}
 use Rattle.links.proofs.grouped.Grouped.enter_all.Goals as goal
-use Rattle.links.proofs.grouped.Grouped.enter_all.Goals.{then-stone-from, else-stone-from}
 
-pub loop-direction-init : goal.loop-direction-init
-loop-direction-init c = over_none _ _ _
+pub loop-near-init : goal.loop-near-init
+loop-near-init c = upto_start _ _ _ (c.into_iter-near-iterator.ensures.into_iter_gives ∙ c.of-near-items.ensures) (over_none _ _ _)
 
-pub loop-direction-preserved-in_default : goal.loop-direction-preserved-in_default
-loop-direction-preserved-in_default c =
-    entered_more (board c.args.self.now) (number c.args.side) (parents c.args.self.now) c.args.k c.args.cell c.loop-direction.direction c.beside.result _ _ _ c.loop-direction.invariant c.beside.ensures
-    (rw c.in_default.is)
+pub loop-near-preserved-then-eq : goal.loop-near-preserved-then-eq
+loop-near-preserved-then-eq c =
+    let is : Some c.args.side ≡ c.stone.result = grind arith in
+    let there = upto_next _ (λ m none so_far. over_end _ (λ s. refl) _ m _ _ none so_far) c.in-Some.ensures.steps c.loop-near.invariant in
+    let same = eq-eqb (at (board c.args.self.now) c.in-Some.near) (number c.args.side) (stone_number c.args.side _ (is ∙ c.stone.ensures.value)) in
+    there.3 _ (over_met _ _ _ _ _ _ _ there.1 there.2 (rw (same, sym c.root.ensures) c.enter-then-eq.ensures))
 
-pub loop-direction-preserved : goal.loop-direction-preserved
-loop-direction-preserved c =
-    entered_more (board c.args.self.now) (number c.args.side) (parents c.args.self.now) c.args.k c.args.cell c.loop-direction.direction c.beside.result _ _ _ c.loop-direction.invariant c.beside.ensures
-    (rw c.in-Some.is (elim c.if-stone-from.branch [
-      | then-stone-from w ↦ rw (w.sets-is, eq-eqb c.in-Some.stone (number c.args.side) (w.if-stone-from.true ∙ c.from.ensures)) w.enter-then-stone-from.ensures
-      | else-stone-from w ↦ rw (w.sets-is, ne_eqb c.in-Some.stone (number c.args.side) (λ e. w.if-stone-from.false (e ∙ sym c.from.ensures)))
-    ]))
+pub loop-near-preserved : goal.loop-near-preserved
+loop-near-preserved c =
+    let isnt : Some c.args.side ≡ c.stone.result → ⊥ = λ e. grind arith in
+    let there = upto_next _ (λ m none so_far. over_end _ (λ s. refl) _ m _ _ none so_far) c.in-Some.ensures.steps c.loop-near.invariant in
+    let apart = ne_eqb (at (board c.args.self.now) c.in-Some.near) (number c.args.side) (λ e. isnt (number_stone c.args.side _ e ∙ sym c.stone.ensures.value)) in
+    there.3 _ (over_met _ _ _ _ _ _ _ there.1 there.2 (rw apart refl))
+
+pub returns : goal.returns
+returns c =
+    let all = upto_end _ (λ m none so_far. over_end _ (λ s. refl) _ m _ _ none so_far) c.in-None.ensures.steps.0 c.loop-near.invariant in
+    grind arith

@@ -1,43 +1,30 @@
-use Rattle.std.proofs.Common.{◌≡◌, sym, ◌∙◌}
-use Rattle.std.proofs.lemmas.Bool.{eq-eqb, ne_eqb}
-use Rattle.hexboard.specs.Board.{other}
-use Rattle.hexboard.specs.Sides.{number}
-use Rattle.links.specs.Gathering.{by_root}
-use Rattle.links.specs.Grouped.{board, parents}
-use Rattle.links.proofs.Gathered.{over_none, joined_more}
+use Rattle.std.proofs.Common.{◌≡◌, Some, sym, ◌∙◌, arith}
+use Rattle.hexboard.proofs.Given.{upto_start, upto_next, upto_end}
+use Rattle.hexboard.proofs.Pairs.{stone_number, number_stone}
+use Rattle.links.proofs.Gathered.{over_none, looked_end, looked_theirs, looked_ours}
 use Rattle.links.proofs.grouped.Grouped.look_around.Goals as goal
-use Rattle.links.proofs.grouped.Grouped.look_around.Goals.{then-stone-from, else-stone-from}
 
-pub loop-direction-init : goal.loop-direction-init
-loop-direction-init c = record { near = over_none _ _ _; borders = over_none _ _ _ }
+pub loop-near-init : goal.loop-near-init
+loop-near-init c =
+    upto_start _ _ _ (c.into_iter-near-iterator.ensures.into_iter_gives ∙ c.of-near-items.ensures)
+    (record { joined = over_none _ _ _; touched = c.borders.ensures.value ∙ over_none _ _ _ })
 
-pub loop-direction-preserved-in_default : goal.loop-direction-preserved-in_default
-loop-direction-preserved-in_default c =
-    let b = board c.args.self.now in
-    let w = number c.args.side in
-    let ps = parents c.args.self.now in
-    record {
-      near = joined_more b w ps (by_root c.args.sets.now) c.args.cell c.loop-direction.direction c.beside.result _ _ _ c.loop-direction.invariant.near c.beside.ensures (rw c.in_default.is);
-      borders = joined_more b w ps (by_root c.args.self.now.borders.now) c.args.cell c.loop-direction.direction c.beside.result _ _ _ c.loop-direction.invariant.borders c.beside.ensures (rw c.in_default.is);
-    }
+pub loop-near-preserved-then-ne : goal.loop-near-preserved-then-ne
+loop-near-preserved-then-ne c =
+    let isnt : Some c.opponent.result ≡ c.stone.result → ⊥ = λ e. grind arith in
+    let there = upto_next _ (looked_end _ _ _ _ _ _ _ _) c.in-Some.ensures.steps c.loop-near.invariant in
+    there.3 _
+    (rw (c.read.ensures, c.touched.ensures, c.root-root.ensures)
+    (looked_ours _ _ _ _ _ _ _ _ _ _ there.1 there.2 (λ e. isnt (number_stone c.opponent.result _ (e ∙ sym c.opponent.ensures) ∙ sym c.stone.ensures.value))))
 
-pub loop-direction-preserved : goal.loop-direction-preserved
-loop-direction-preserved c =
-    let b = board c.args.self.now in
-    let w = number c.args.side in
-    let ps = parents c.args.self.now in
-    let theirs : c.from.result ≡ other w = c.from.ensures ∙ c.opponent.ensures in
-    elim c.if-stone-from.branch [
-      | then-stone-from w' ↦
-          let ours = ne_eqb c.in-Some.stone (other w) (λ e. w'.if-stone-from.true (e ∙ sym theirs)) in
-          record {
-            near = joined_more b w ps (by_root c.args.sets.now) c.args.cell c.loop-direction.direction c.beside.result _ _ _ c.loop-direction.invariant.near c.beside.ensures (rw (c.in-Some.is, w'.all-is, ours, w'.read.ensures));
-            borders = joined_more b w ps (by_root c.args.self.now.borders.now) c.args.cell c.loop-direction.direction c.beside.result _ _ _ c.loop-direction.invariant.borders c.beside.ensures (rw (c.in-Some.is, w'.all-is, ours, w'.touched.ensures));
-          }
-      | else-stone-from w' ↦
-          let same = eq-eqb c.in-Some.stone (other w) (w'.if-stone-from.false ∙ theirs) in
-          record {
-            near = joined_more b w ps (by_root c.args.sets.now) c.args.cell c.loop-direction.direction c.beside.result _ _ _ c.loop-direction.invariant.near c.beside.ensures (rw (c.in-Some.is, w'.all-is, same));
-            borders = joined_more b w ps (by_root c.args.self.now.borders.now) c.args.cell c.loop-direction.direction c.beside.result _ _ _ c.loop-direction.invariant.borders c.beside.ensures (rw (c.in-Some.is, w'.all-is, same));
-          }
-    ]
+pub loop-near-preserved : goal.loop-near-preserved
+loop-near-preserved c =
+    let is : Some c.opponent.result ≡ c.stone.result = grind arith in
+    let there = upto_next _ (looked_end _ _ _ _ _ _ _ _) c.in-Some.ensures.steps c.loop-near.invariant in
+    there.3 _ (looked_theirs _ _ _ _ _ _ _ _ _ _ there.1 there.2 (stone_number c.opponent.result _ (is ∙ c.stone.ensures.value) ∙ c.opponent.ensures))
+
+pub returns-clause-near : goal.returns-clause-near
+returns-clause-near c = (upto_end _ (looked_end _ _ _ _ _ _ _ _) c.in-None.ensures.steps.0 c.loop-near.invariant).joined
+
+pub returns-clause-borders : goal.returns-clause-borders
+returns-clause-borders c = (upto_end _ (looked_end _ _ _ _ _ _ _ _) c.in-None.ensures.steps.0 c.loop-near.invariant).touched
