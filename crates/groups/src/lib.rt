@@ -24,7 +24,8 @@ pub struct Groups<'a> {
 }
 
 impl Groups<'_> {
-    // Makes the memory that of a board without stones.
+    // Makes the memory that of a board without stones. Cell by cell, as in `lift`: a parent is a number of two bytes, which `set_word`
+    // writes by its place.
     pub fn clear(self, size: Size)
         ensures { length self.entry.parents.now ≡ size.n * size.n * 2 → length self.entry.borders.now ≡ size.n * size.n → after self.exit ≡ forest_of size.n [] }
     {

@@ -1,11 +1,13 @@
 -- The six neighbours of a cell are the cells that are next to it, and the bits of its borders are the borders it touches.
-use Rattle.std.proofs.Common.{◌≡◌, ℕ, zero, suc, ◌+◌, ◌*◌, ◌/◌, ◌%◌, ◌<◌, Bool, true, false, ◌||◌, ℤ, pos, negsuc, ◌+ℤ◌, IfSome, Some, None, Decides, Option, sym, refl, ap, ◌∙◌, arith, lit<}
+use Rattle.std.proofs.Common.{◌≡◌, ℕ, zero, suc, ◌+◌, ◌*◌, ◌/◌, ◌%◌, ◌<◌, ◌↔◌, Bool, true, false, ◌||◌, ℤ, pos, negsuc, ◌+ℤ◌, IfSome, Some, None, Decides, Option, sym, refl, ap, ◌∙◌, arith, lit<}
 use Rattle.std.proofs.lemmas.Bool.Decides.{nat_tests, same_from_decides}
 use Rattle.std.proofs.lemmas.Bool.{lt-ltb}
 use Rattle.std.proofs.lemmas.Int.{ints}
 use Rattle.std.proofs.lemmas.Nat.{div-mul-add, mod-mul-add, mul-add-lt, div-add-mod', div_below, mod_below}
 use Rattle.hexboard.specs.Board.{right_of, below, up_right, next_to, begins, ends}
-use Rattle.hexboard.specs.Geometry.{cell_of, step_to, toward, neighbour_of, Beside, AllNeighbours, touch}
+use Rattle.std.specs.List.{Contains}
+use Rattle.hexboard.specs.Geometry.{cell_of, step_to, toward, neighbour_of, neighbours, Beside, AllNeighbours, touch}
+use Rattle.hexboard.proofs.Given.{given_only, given_all}
 
 -- Nothing is not something.
 none_some : {j : ℕ} → None ≡ Some j → ⊥
@@ -117,6 +119,17 @@ neighbour_all n i j h g e = let l = next_leads n i j e in (l.0, l.1, leads_neigh
 pub all_neighbours : AllNeighbours 6
 unfolding AllNeighbours
 all_neighbours n i j b = neighbour_all n i j b.from b.inside b.near
+
+-- The list of the neighbours has the cells that are next to the cell, and no other.
+pub neighbours_beside : (n i j : ℕ) → Beside n i j ↔ Contains (neighbours n i) j
+unfolding AllNeighbours
+neighbours_beside n i j = (to, from)
+  where
+    to : Beside n i j → Contains (neighbours n i) j
+    to b = let (k, few, is) = all_neighbours n i j b in given_all (neighbour_of n i) 6 0 k j (omega arith) (omega arith) is
+
+    from : Contains (neighbours n i) j → Beside n i j
+    from h = let (d, low, high, is) = given_only (neighbour_of n i) 6 0 j h in neighbour_beside n i d j is
 
 -- There are six.
 pub neighbour_below : (n i k j : ℕ) → neighbour_of n i k ≡ Some j → k < 6

@@ -1,11 +1,12 @@
 -- The cells there are among those that a function may give for some numbers, one after the other: what a walk over them knows.
-use Rattle.std.proofs.Common.{rules, ◌≡◌, ℕ, zero, suc, ◌+◌, ◌-◌, ◌<◌, ◌≤◌, List, [], ◌∷◌, true, Some, None, Option, MatchOption, IfSome, sym, ap, ◌∙◌, refl, subst, length, get_or, drop, arith}
+use Rattle.std.proofs.Common.{rules, ◌≡◌, ℕ, zero, suc, ◌+◌, ◌-◌, ◌<◌, ◌≤◌, List, [], ◌∷◌, true, Some, None, Option, MatchOption, IfSome, sym, ap, ◌∙◌, refl, subst, ⊎_elim, length, get_or, drop, arith}
 use Rattle.std.specs.Bool.{IsTrue}
 use Rattle.std.specs.Option.{option_map}
-use Rattle.std.specs.List.{cons_option, FoldsTo}
+use Rattle.std.specs.List.{cons_option, FoldsTo, Contains}
 use Rattle.std.specs.Iterator.{FindsMapped, Yields, YieldsThen, YieldsFirst, MakesProgress, item_count}
-use Rattle.std.specs.Iterator.Runs.{Run, SomeRun, AllItems, AllItemsGive}
+use Rattle.std.specs.Iterator.Runs.{Run, SomeRun, AllItemsGive}
 use Rattle.std.specs.Fn.{Called}
+use Rattle.std.proofs.lemmas.Bool.{cases_eq}
 use Rattle.std.proofs.iter.Yields.{nat_range_steps}
 use Rattle.std.proofs.iter.runs.Sources.{range_runs}
 use Rattle.std.specs.declared.ops.Range.{Range}
@@ -29,6 +30,37 @@ none_some {j} h = let z : ◌≡◌ {A = ℕ} 0 1 = cc in omega arith
 
 some_same : {i j : ℕ} → Some i ≡ Some j → i ≡ j
 some_same h = cc
+
+-- A cell of the list is there for one of the numbers,
+pub given_only : (next : ℕ → Option ℕ) (m k j : ℕ) → Contains (given next k m) j → (d : ℕ) × (k ≤ d) × (d < k + m) × (next d ≡ Some j)
+unfolding given
+given_only next zero k j (p, l, e) = absurd (omega arith)
+given_only next (suc m) k j h = at (given_only next m (suc k) j) (next k) refl h
+  where
+    There : ℕ → ℕ → Type 0
+    There i n = (d : ℕ) × (i ≤ d) × (d < i + n) × (next d ≡ Some j)
+
+    later : There (suc k) m → There k (suc m)
+    later (d, low, high, is) = (d, omega arith, omega arith, is)
+
+    at : (Contains (given next (suc k) m) j → There (suc k) m) → (o : Option ℕ) → next k ≡ o → Contains (cons_option o (given next (suc k) m)) j → There k (suc m)
+    at on None is h = later (on h)
+    at on (Some y) is (zero, l, e) = (k, omega arith, omega arith, is ∙ ap Some e)
+    at on (Some y) is (suc p, l, e) = later (on (p, omega arith, e))
+
+-- and what is there for one is in the list.
+pub given_all : (next : ℕ → Option ℕ) (m k d j : ℕ) → k ≤ d → d < k + m → next d ≡ Some j → Contains (given next k m) j
+unfolding given
+given_all next zero k d j low high is = absurd (omega arith)
+given_all next (suc m) k d j low high is =
+    ⊎_elim
+    (λ here. let first : next k ≡ Some j = ap next here ∙ is in rw first (0, omega arith, refl))
+    (λ apart. later (next k) (given_all next m (suc k) d j (omega arith) (omega arith) is))
+    (cases_eq k d)
+  where
+    later : (o : Option ℕ) → Contains (given next (suc k) m) j → Contains (cons_option o (given next (suc k) m)) j
+    later None h = h
+    later (Some y) (p, l, e) = (suc p, omega arith, e)
 
 -- what is given for the numbers of a range
 abbrev pub in_range : (ℕ → Option ℕ) → Range ℕ → List ℕ
@@ -90,7 +122,7 @@ module _ (next : ℕ → Option ℕ) {F : Type 0} {g : Mut F (ℕ × Unit {0}) (
 -- What `find_map` over a range finds, where its closure answers as `next` does, is the first of the cells, and it leaves the others.
 pub found_given : (next : ℕ → Option ℕ) (Q : Run nat_range_steps → ℕ → Type 0) {F : Type 0} {g : Mut F (ℕ × Unit {0}) (Option ℕ)} (s u : Range ℕ) (f : F) (r : Option ℕ)
     → (xs : List ℕ) × (o : Option ℕ) × (j : F) × YieldsThen nat_range_steps s xs o u × FoldsTo (λ p x q. Called g p (x, tt) None q) f xs j
-        × MatchOption o (r ≡ None) (λ x. (h : F) × Called g j (x, tt) r h)
+    × MatchOption o (r ≡ None) (λ x. (h : F) × Called g j (x, tt) r h)
     → SomeRun nat_range_steps s (λ p. MatchOption r (IsTrue p.whole × AllItemsGive p g f None) (Q p))
     → ((x : ℕ) (b : Option ℕ) (q : F) → Called g f (x, tt) b q → (q ≡ f) × (b ≡ next x)) → YieldsFirst (in_range next) s r u
 found_given next Q s u f r ran runs gives = found next f gives Q s u r ran runs

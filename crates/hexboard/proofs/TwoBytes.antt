@@ -1,5 +1,5 @@
 -- Numbers of two bytes in memory: how many there are, what is read, and what is written.
-use Rattle.std.proofs.Common.{map, ◌≡◌, ℕ, zero, suc, ◌+◌, ◌*◌, ◌/◌, ◌%◌, ◌<◌, ◌≤◌, List, [], ◌∷◌, length, get_or, set, take, replicate, sym, refl, ap, ◌∙◌, ⊎_elim, arith}
+use Rattle.std.proofs.Common.{◌≡◌, ℕ, zero, suc, ◌+◌, ◌*◌, ◌/◌, ◌%◌, ◌<◌, ◌≤◌, List, [], ◌∷◌, length, get_or, set, take, replicate, sym, refl, ap, ◌∙◌, ⊎_elim, arith}
 use Rattle.std.proofs.lemmas.List.{ext_get_or, set_past}
 use borrow.Rule.Slice.PartMut.{put_mid}
 use Rattle.std.specs.Simd.{first_chunks}
@@ -34,16 +34,6 @@ word_paired [] (suc k) i d none h l = absurd (omega arith)
 word_paired (a ∷ []) (suc k) i d none h l = absurd (omega arith)
 word_paired (a ∷ (b ∷ bs)) (suc k) zero d none h l = refl
 word_paired (a ∷ (b ∷ bs)) (suc k) (suc i) d none h l = word_paired bs k i d none (omega arith) (omega arith)
-
--- so all numbers are those of the pairs in order,
-abbrev pub paired : List ℕ → ℕ
-paired pair = get_or pair 0 0 + get_or pair 1 0 * 256
-
-pub words_paired : (bs : List ℕ) (k : ℕ) → k ≡ length bs / 2 → map paired (first_chunks 2 k bs) ≡ words bs
-words_paired [] k e = rw e refl
-words_paired (a ∷ []) k e = rw e refl
-words_paired (a ∷ (b ∷ bs)) zero e = absurd (omega arith)
-words_paired (a ∷ (b ∷ bs)) (suc k) e = ap (λ ws. (a + b * 256) ∷ ws) (words_paired bs k (omega arith))
 
 -- and two bytes that are put there are that number.
 pub word_put : (bs : List ℕ) (i low high v at size : ℕ) (ys : List ℕ) → at ≡ i * 2 → size ≡ 2 → i * 2 + 1 < length bs → ys ≡ low ∷ (high ∷ []) → v ≡ low + high * 256 →

@@ -1,5 +1,5 @@
 -- The six neighbours of a cell and the borders it touches, as functions that code can follow step by step.
-use Rattle.std.specs.Prelude.{◌≡◌, ℕ, zero, suc, ◌+◌, ◌-◌, ◌*◌, ◌/◌, ◌%◌, ◌<◌, true, ◌&&◌, List, [], ◌∷◌, ℤ, pos, negsuc, ◌+ℤ◌, Some, None, Option, ◌==◌, nat_lt}
+use Rattle.std.specs.Prelude.{◌≡◌, ℕ, zero, suc, ◌+◌, ◌-◌, ◌*◌, ◌/◌, ◌%◌, ◌<◌, true, ◌&&◌, List, [], ℤ, pos, negsuc, ◌+ℤ◌, Some, None, Option, ◌==◌, nat_lt}
 use Rattle.std.specs.List.{cons_option}
 use Rattle.hexboard.specs.Board.{pick, Board, next_to, begins, ends}
 

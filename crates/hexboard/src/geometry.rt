@@ -1,5 +1,5 @@
 // Which cells are next to each other, and which borders of a side a cell touches.
-ghost use Rattle.std.specs.Prelude.{◌≡◌, ℕ, ◌/◌, ◌%◌, ◌<◌, IfSome, Some, Decides};
+ghost use Rattle.std.specs.Prelude.{◌≡◌, ℕ, ◌/◌, ◌%◌, ◌<◌, ◌↔◌, IfSome, Some, Decides, Contains};
 ghost use Rattle.std.specs.Iterator.{YieldsFirst, item_count};
 ghost use Rattle.hexboard.specs.Board.{next_to, begins, ends};
 ghost use Rattle.hexboard.specs.Geometry.{cell_of, step_to, neighbour_of, neighbours, Beside, AllNeighbours, touch};
@@ -11,7 +11,8 @@ use std::marker::Model;
 use std::ops::Range;
 
 // The step toward the k-th neighbour of a cell, as rows down and columns to the right: to the right, to the left, below, above,
-// up and to the right, down and to the left. There are six.
+// up and to the right, down and to the left. There are six. They are numbers and no enum: a cell's neighbours are counted through, and
+// what is promised of one is promised for each number.
 fn step(k: u8) -> Option<(i16, i16)>
     ensures { result ≡ step_to k }
 {
@@ -71,7 +72,8 @@ impl Model for Neighbours {
 impl Neighbours {
     // The neighbours of a cell; none of a cell that is not on the board.
     pub fn of(size: Size, cell: u16) -> Neighbours
-        ensures { result ≡ neighbours size.n cell }
+        ensures value { result ≡ neighbours size.n cell }
+        ensures beside { (j : ℕ) → Beside size.n cell j ↔ Contains result j }
     {
         Neighbours {
             size,
@@ -140,7 +142,7 @@ mod tests {
     ];
 
     fn board(n: u16) -> Result<Size, Fail> {
-        Size::new(n).ok_or(Fail::new("no board is so wide"))
+        Size::new(n).ok_or_else(|| Fail::new("no board is so wide"))
     }
 
     fn six(size: Size, cell: u16) -> [Option<u16>; 6] {

@@ -37,7 +37,7 @@ impl From<Side> for u8 {
     }
 }
 
-// A number that no side has.
+// A number that no side has. Its line and its trait are written by hand: this crate stands on std alone.
 #[derive(Clone, Copy, PartialEq, Eq, Debug)]
 pub struct NoSide(pub u8);
 

@@ -1,9 +1,8 @@
--- Whether a cell is among those that pairs of bytes give.
-use Rattle.std.proofs.Common.{◌≡◌, ℕ, eqb, map, ◌||◌, List, [], ◌∷◌, refl, ap}
+-- Whether a cell is among those that bytes give.
+use Rattle.std.proofs.Common.{◌≡◌, ℕ, eqb, ◌||◌, List, [], ◌∷◌, refl, ap}
 use Rattle.std.specs.List.{list_any}
-use Rattle.hexboard.proofs.TwoBytes.{paired}
 use Rattle.text.specs.Boards.{among}
 
-pub among_pairs : (pairs : List (List ℕ)) (cell : ℕ) → list_any (λ p. eqb (paired p) cell) pairs ≡ among (map paired pairs) cell
-among_pairs [] cell = refl
-among_pairs (p ∷ pairs) cell = ap (λ b. eqb (paired p) cell || b) (among_pairs pairs cell)
+pub among_any : (cells : List ℕ) (cell : ℕ) → list_any (λ c. eqb c cell) cells ≡ among cells cell
+among_any [] cell = refl
+among_any (c ∷ cells) cell = ap (λ b. eqb c cell || b) (among_any cells cell)

@@ -3,7 +3,7 @@ ghost use Rattle.std.specs.Prelude.{◌≡◌, ℕ, ◌<◌, Bool, List, ◌++�
 ghost use Rattle.hexboard.specs.Words.{words};
 ghost use Rattle.text.specs.Boards.{mark, gap, among, spaces, row_cells, row_line, board_lines, outcome_line};
 
-use hexboard::{Side, Size};
+use hexboard::{Side, Size, Words};
 use std::fmt;
 use std::fmt::Write;
 
@@ -87,8 +87,7 @@ impl Drawing<'_> {
     fn is_marked(&self, cell: u16) -> bool
         ensures { result ≡ among (words self.now.way.now) cell }
     {
-        let (pairs, _) = self.way.as_chunks::<2>();
-        pairs.iter().any(|pair| u16::from_le_bytes(*pair) == cell)
+        Words::of(self.way).any(|each| each == cell)
     }
 }
 

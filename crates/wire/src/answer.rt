@@ -12,7 +12,7 @@ ghost use Rattle.wire.specs.Reading.{Understood};
 
 use crate::front::put;
 use crate::refusal::Refusal;
-use hexboard::Side;
+use hexboard::{Side, Words};
 use std::fmt;
 
 // `W` is how the cells of a way are held. Where an answer is bytes, or is made of them, they are `&[u8]`, two bytes a cell, low byte
@@ -174,9 +174,8 @@ impl fmt::Display for Cells<'_> {
     ghost output = { λ cells. Some (flat_map spaced (words cells.0.now)) };
 
     fn fmt<W: fmt::Write>(&self, f: &mut fmt::Formatter<W>) -> fmt::Result {
-        let (pairs, _) = self.0.as_chunks::<2>();
-        for pair in pairs {
-            write!(f, " {}", u16::from_le_bytes(*pair))?;
+        for cell in Words::of(self.0) {
+            write!(f, " {cell}")?;
         }
         Ok(())
     }

@@ -12,7 +12,7 @@ use Rattle.groups.proofs.Theorems.{memory_grows}
 use Rattle.groups.proofs.Groups.place.Goals as goal
 
 pub loop-near-init : goal.loop-near-init
-loop-near-init c = upto_start _ _ _ (c.into_iter-near-iterator.ensures.into_iter_gives ∙ c.of-near-items.ensures) (adopt_none _ _ _ _ _)
+loop-near-init c = upto_start _ _ _ (c.into_iter-near-iterator.ensures.into_iter_gives ∙ c.of-near-items.ensures.value) (adopt_none _ _ _ _ _)
 
 pub loop-near-preserved-then-eq : goal.loop-near-preserved-then-eq
 loop-near-preserved-then-eq c =

@@ -1,4 +1,4 @@
-use Rattle.std.proofs.Common.{◌≡◌, ℕ, ◌+◌, ◌≤◌, Some, None, sym, ◌∙◌, arith, lit<}
+use Rattle.std.proofs.Common.{◌≡◌, ℕ, ◌+◌, Some, None, sym, ◌∙◌, arith}
 use Rattle.hexboard.specs.Board.{Board, at}
 use Rattle.hexboard.specs.Geometry.{neighbour_of, laid}
 use Rattle.hexboard.specs.Sides.{by_number}

@@ -1,5 +1,5 @@
-use Rattle.std.proofs.Common.{◌≡◌, ℕ, sym, arith}
-use Rattle.hexboard.specs.Geometry.{neighbour_of, laid}
+use Rattle.std.proofs.Common.{sym, arith}
+use Rattle.hexboard.specs.Geometry.{laid}
 use Rattle.hexboard.specs.Sides.{number}
 use Rattle.hexboard.proofs.Adjacent.{neighbour_next, neighbour_inside}
 use Rattle.hexboard.proofs.Given.{upto_next, upto_end}

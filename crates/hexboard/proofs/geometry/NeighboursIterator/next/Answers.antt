@@ -1,5 +1,4 @@
-use Rattle.std.proofs.Common.{rules, tests, ◌≡◌, ℕ, sym, ap, ◌∙◌, subst, arith}
-use Rattle.std.specs.Iterator.{YieldsFirst}
+use Rattle.std.proofs.Common.{rules, tests, sym}
 use Rattle.hexboard.specs.Geometry.{neighbour_of}
 use Rattle.hexboard.proofs.Given.{found_given, goes_first}
 use Rattle.hexboard.proofs.geometry.NeighboursIterator.next.Goals as goal

@@ -9,7 +9,7 @@ use Rattle.links.proofs.Gathered.{over_none, over_end, over_met}
 use Rattle.links.proofs.grouped.Grouped.enter_all.Goals as goal
 
 pub loop-near-init : goal.loop-near-init
-loop-near-init c = upto_start _ _ _ (c.into_iter-near-iterator.ensures.into_iter_gives ∙ c.of-near-items.ensures) (over_none _ _ _)
+loop-near-init c = upto_start _ _ _ (c.into_iter-near-iterator.ensures.into_iter_gives ∙ c.of-near-items.ensures.value) (over_none _ _ _)
 
 pub loop-near-preserved-then-eq : goal.loop-near-preserved-then-eq
 loop-near-preserved-then-eq c =

@@ -6,7 +6,7 @@ use Rattle.links.proofs.grouped.Grouped.look_around.Goals as goal
 
 pub loop-near-init : goal.loop-near-init
 loop-near-init c =
-    upto_start _ _ _ (c.into_iter-near-iterator.ensures.into_iter_gives ∙ c.of-near-items.ensures)
+    upto_start _ _ _ (c.into_iter-near-iterator.ensures.into_iter_gives ∙ c.of-near-items.ensures.value)
     (record { joined = over_none _ _ _; touched = c.borders.ensures.value ∙ over_none _ _ _ })
 
 pub loop-near-preserved-then-ne : goal.loop-near-preserved-then-ne
