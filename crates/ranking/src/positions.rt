@@ -3,37 +3,25 @@ ghost use Rattle.std.specs.Prelude.{◌≡◌, ℕ, ◌+◌, ◌/◌, ◌%◌, �
 ghost use Rattle.ranking.specs.Positions.{Position, choose, count, before, place, total};
 ghost use Rattle.ranking.specs.Triangle.{Rows, Starts};
 
-// Rows 0 to 16 of Pascal's triangle, 17 numbers in a row.
+// Rows 0 to 16 of Pascal's triangle, each with columns 0 to 16.
 #[derive(Drop)]
 struct Triangle {
-    numbers: [u32; 289],
-    ghost rows: { Rows 289 numbers },
-}
-
-// The next number of the triangle: 1 in the first column, 0 in the rest of the first row, else the sum of the two above.
-#[tactic(auto, using(crate::proofs::Counting::column, crate::proofs::Counting::row, crate::proofs::Counting::above, crate::proofs::Counting::choose_small))]
-fn next(numbers: &[u32; 289], i: usize) -> u32
-    requires inside { i < 289 }
-    requires rows { Rows i numbers.now }
-    ensures { result ≡ choose (i / 17) (i % 17) }
-{
-    if i % 17 == 0 {
-        1
-    } else if i < 17 {
-        0
-    } else {
-        numbers[i - 18] + numbers[i - 17]
-    }
+    rows: [[u32; 17]; 17],
+    ghost filled: { Rows 17 rows },
 }
 
 impl Triangle {
     fn new() -> Triangle {
-        let mut numbers = [0; 289];
-        // By index: each number is read from those before it.
-        for i in 0..289 {
-            numbers[i] = next(&numbers, i);
+        let mut rows = [[0; 17]; 17];
+        rows[0][0] = 1;
+        // By index: each number is the sum of two of the row above.
+        for n in 1..17 {
+            rows[n][0] = 1;
+            for k in 1..17 {
+                rows[n][k] = rows[n - 1][k - 1] + rows[n - 1][k];
+            }
         }
-        Triangle { numbers }
+        Triangle { rows }
     }
 
     // How many sets of k of n things there are.
@@ -41,7 +29,7 @@ impl Triangle {
         requires { (n ≤ 16) × (k ≤ 16) }
         ensures { result ≡ choose n k }
     {
-        self.numbers[n as usize * 17 + k as usize]
+        self.rows[n as usize][k as usize]
     }
 
     // How many ways there are to lay a stones of one side and b of the other on k cells.
