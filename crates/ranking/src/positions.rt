@@ -48,7 +48,7 @@ impl Triangle {
         self.choose(k, all) as usize * self.choose(all, stones.mine) as usize
     }
 
-    // How many of the ways to lay so many stones on k + 1 cells come before those with these of them on the first cell.
+    // How many of the ways to lay so many stones on k + 1 cells come before those that have `first` on the first cell.
     #[tactic(auto, using(std::proofs::lemmas::Bool::Decides::nat_tests), unfolding(crate::specs::Positions::before))]
     fn before(&self, k: u32, first: Stones, stones: Stones) -> usize
         requires { (k < 16) × ((stones.mine + stones.theirs ≤ 16) × (first.theirs ≤ stones.theirs)) }
@@ -124,6 +124,7 @@ impl Ranking {
         let mut x = mine;
         let mut y = theirs;
         for k in (0..self.cells).rev() {
+            // Numbers, and not an enum of what stands on the cell: they are taken off the numbers of stones that are left.
             let first = Stones {
                 mine: (x % 2) as u32,
                 theirs: (y % 2) as u32,
