@@ -1,5 +1,5 @@
 -- How many ways there are to lay stones: the law of the first cell, and bounds.
-use Rattle.std.proofs.Common.{◌≡◌, ℕ, zero, suc, ◌+◌, ◌-◌, ◌*◌, ◌/◌, ◌%◌, ◌^◌, ◌<◌, ◌≤◌, refl, ap, ◌∙◌, le_trans, add-mul, mul-le-mul, pow-suc, mul-add, arith, pow_mono}
+use Rattle.std.proofs.Common.{◌≡◌, ℕ, zero, suc, ◌+◌, ◌-◌, ◌*◌, ◌/◌, ◌^◌, ◌<◌, ◌≤◌, refl, ap, le_trans, add-mul, mul-le-mul, pow-suc, mul-add, arith, pow_mono}
 use Rattle.ranking.specs.Positions.{choose, count, start}
 
 -- nothing is chosen in one way
@@ -73,19 +73,8 @@ pub count_none : count 0 0 0 ≡ 1
 unfolding choose count
 count_none = refl
 
--- Pascal's triangle in rows of 17: the first column, the first row, and each other number from the two above it.
-pub column : (i : ℕ) → i % 17 ≡ 0 → choose (i / 17) (i % 17) ≡ 1
-column i h = ap (choose (i / 17)) h ∙ choose_none (i / 17)
-
-choose_row : (k : ℕ) → 0 < k → choose 0 k ≡ 0
-unfolding choose
-choose_row zero p = absurd (omega arith)
-choose_row (suc k) p = refl
-
-pub row : (i : ℕ) → (i % 17 ≡ 0 → ⊥) → i < 17 → choose (i / 17) (i % 17) ≡ 0
-row i h l = let top : i / 17 ≡ 0 = omega arith in rw top (choose_row (i % 17) (omega arith))
-
-choose_sum : (n k : ℕ) → 0 < n → 0 < k → choose n k ≡ choose (n - 1) (k - 1) + choose (n - 1) k
+-- In Pascal's triangle each number but those of the first row and the first column is the sum of the two above it.
+pub choose_sum : (n k : ℕ) → 0 < n → 0 < k → choose n k ≡ choose (n - 1) (k - 1) + choose (n - 1) k
 unfolding choose
 choose_sum zero k p q = absurd (omega arith)
 choose_sum (suc n) zero p q = absurd (omega arith)
@@ -93,15 +82,6 @@ choose_sum (suc n) (suc k) p q =
     let up : suc n - 1 ≡ n = omega arith in
     let back : suc k - 1 ≡ k = omega arith in
     rw (up, back)
-
-pub above : (i : ℕ) → (i % 17 ≡ 0 → ⊥) → 17 ≤ i →
-    choose (i / 17) (i % 17) ≡ choose ((i - 18) / 17) ((i - 18) % 17) + choose ((i - 17) / 17) ((i - 17) % 17)
-above i h l =
-    let up : (i - 18) / 17 ≡ i / 17 - 1 = omega arith in
-    let back : (i - 18) % 17 ≡ i % 17 - 1 = omega arith in
-    let straight : (i - 17) / 17 ≡ i / 17 - 1 = omega arith in
-    let same : (i - 17) % 17 ≡ i % 17 = omega arith in
-    rw (up, back, straight, same) (choose_sum (i / 17) (i % 17) (omega arith) (omega arith))
 
 -- the numbers of the first 17 rows are small
 pub choose_small : (n k : ℕ) → n ≤ 16 → choose n k ≤ 65536

@@ -3,3 +3,4 @@ pub mod Members
 pub mod Counting
 pub mod Ranks
 pub mod Entries
+pub mod Rows

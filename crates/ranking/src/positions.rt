@@ -3,37 +3,32 @@ ghost use Rattle.std.specs.Prelude.{◌≡◌, ℕ, ◌+◌, ◌/◌, ◌%◌, �
 ghost use Rattle.ranking.specs.Positions.{Position, choose, count, before, place, total};
 ghost use Rattle.ranking.specs.Triangle.{Rows, Starts};
 
-// Rows 0 to 16 of Pascal's triangle, 17 numbers in a row.
-#[derive(Drop)]
-struct Triangle {
-    numbers: [u32; 289],
-    ghost rows: { Rows 289 numbers },
+// How many stones of the side to move, and of the other.
+#[derive(Clone, Copy)]
+struct Stones {
+    mine: u32,
+    theirs: u32,
 }
 
-// The next number of the triangle: 1 in the first column, 0 in the rest of the first row, else the sum of the two above.
-#[tactic(auto, using(crate::proofs::Counting::column, crate::proofs::Counting::row, crate::proofs::Counting::above, crate::proofs::Counting::choose_small))]
-fn next(numbers: &[u32; 289], i: usize) -> u32
-    requires inside { i < 289 }
-    requires rows { Rows i numbers.now }
-    ensures { result ≡ choose (i / 17) (i % 17) }
-{
-    if i % 17 == 0 {
-        1
-    } else if i < 17 {
-        0
-    } else {
-        numbers[i - 18] + numbers[i - 17]
-    }
+// Rows 0 to 16 of Pascal's triangle, each with columns 0 to 16.
+#[derive(Drop)]
+struct Triangle {
+    rows: [[u32; 17]; 17],
+    ghost filled: { Rows 17 rows },
 }
 
 impl Triangle {
     fn new() -> Triangle {
-        let mut numbers = [0; 289];
-        // By index: each number is read from those before it.
-        for i in 0..289 {
-            numbers[i] = next(&numbers, i);
+        let mut rows = [[0; 17]; 17];
+        rows[0][0] = 1;
+        // By index: each number is the sum of two of the row above.
+        for n in 1..17 {
+            rows[n][0] = 1;
+            for k in 1..17 {
+                rows[n][k] = rows[n - 1][k - 1] + rows[n - 1][k];
+            }
         }
-        Triangle { numbers }
+        Triangle { rows }
     }
 
     // How many sets of k of n things there are.
@@ -41,27 +36,32 @@ impl Triangle {
         requires { (n ≤ 16) × (k ≤ 16) }
         ensures { result ≡ choose n k }
     {
-        self.numbers[n as usize * 17 + k as usize]
+        self.rows[n as usize][k as usize]
     }
 
-    // How many ways there are to lay a stones of one side and b of the other on k cells.
-    fn ways(&self, k: u32, a: u32, b: u32) -> usize
-        requires { (k ≤ 16) × (a + b ≤ 16) }
-        ensures { result ≡ count k a b }
+    // How many ways there are to lay so many stones on k cells.
+    fn ways(&self, k: u32, stones: Stones) -> usize
+        requires { (k ≤ 16) × (stones.mine + stones.theirs ≤ 16) }
+        ensures { result ≡ count k stones.mine stones.theirs }
     {
-        self.choose(k, a + b) as usize * self.choose(a + b, a) as usize
+        let all = stones.mine + stones.theirs;
+        self.choose(k, all) as usize * self.choose(all, stones.mine) as usize
     }
 
-    // How many of the ways to lay a and b stones on k + 1 cells come before those with m and t of them on the first cell.
+    // How many of the ways to lay so many stones on k + 1 cells come before those that have `first` on the first cell.
     #[tactic(auto, using(std::proofs::lemmas::Bool::Decides::nat_tests), unfolding(crate::specs::Positions::before))]
-    fn before(&self, k: u32, m: u32, t: u32, a: u32, b: u32) -> usize
-        requires { (k < 16) × ((a + b ≤ 16) × (t ≤ b)) }
-        ensures { result ≡ before k m t a b }
+    fn before(&self, k: u32, first: Stones, stones: Stones) -> usize
+        requires { (k < 16) × ((stones.mine + stones.theirs ≤ 16) × (first.theirs ≤ stones.theirs)) }
+        ensures { result ≡ before k first.mine first.theirs stones.mine stones.theirs }
     {
-        if m == 1 {
-            self.ways(k, a, b)
-        } else if t == 1 {
-            self.ways(k + 1, a, b) - self.ways(k, a, b - 1)
+        if first.mine == 1 {
+            self.ways(k, stones)
+        } else if first.theirs == 1 {
+            let behind = Stones {
+                theirs: stones.theirs - 1,
+                ..stones
+            };
+            self.ways(k + 1, stones) - self.ways(k, behind)
         } else {
             0
         }
@@ -89,8 +89,12 @@ impl Ranking {
         let mut starts = [0; 18];
         // By index: each number is the one before it and more.
         for m in 0..17 {
-            let stones = m as u32;
-            starts[m + 1] = starts[m] + triangle.ways(cells, stones / 2, (stones + 1) / 2);
+            let all = m as u32;
+            let stones = Stones {
+                mine: all / 2,
+                theirs: (all + 1) / 2,
+            };
+            starts[m + 1] = starts[m] + triangle.ways(cells, stones);
         }
         Ranking {
             cells,
@@ -112,18 +116,22 @@ impl Ranking {
         requires { Position self.now.cells mine theirs }
         ensures { result ≡ place self.now.cells mine theirs }
     {
-        let mut a = mine.count_ones();
-        let mut b = theirs.count_ones();
-        let mut place = self.starts[(a + b) as usize];
+        let mut left = Stones {
+            mine: mine.count_ones(),
+            theirs: theirs.count_ones(),
+        };
+        let mut place = self.starts[(left.mine + left.theirs) as usize];
         let mut x = mine;
         let mut y = theirs;
         for k in (0..self.cells).rev() {
-            // Numbers, and not an enum of what stands on the cell: they are taken off the numbers of stones.
-            let m = (x % 2) as u32;
-            let t = (y % 2) as u32;
-            place += self.triangle.before(k, m, t, a, b);
-            a -= m;
-            b -= t;
+            // Numbers, and not an enum of what stands on the cell: they are taken off the numbers of stones that are left.
+            let first = Stones {
+                mine: (x % 2) as u32,
+                theirs: (y % 2) as u32,
+            };
+            place += self.triangle.before(k, first, left);
+            left.mine -= first.mine;
+            left.theirs -= first.theirs;
             x /= 2;
             y /= 2;
         }

@@ -3,8 +3,8 @@ use lib.Count.{ones}
 use Rattle.ranking.proofs.Ranks.{walk_none, walk_few, walk_more, walk_all, place_small, stones_few}
 use Rattle.ranking.proofs.positions.Ranking.place.Goals as goal
 
-pub bounds-self-a : goal.bounds-self-a
-bounds-self-a c = omega (arith, stones_few c.args.self.now.cells c.args.mine c.args.theirs c.requires)
+pub bounds-self-left : goal.bounds-self-left
+bounds-self-left c = omega (arith, stones_few c.args.self.now.cells c.args.mine c.args.theirs c.requires)
 
 pub loop-k-init : goal.loop-k-init
 loop-k-init c =
@@ -21,11 +21,11 @@ overflow_add-place-in-loop-k c =
     let on = walk_more c.loop-k-test.true c.loop-k.invariant in
     omega (arith, on.sum, place_small c.args.self.now.cells c.args.mine c.args.theirs c.args.self.now.few c.requires)
 
-pub overflow_sub-a : goal.overflow_sub-a
-overflow_sub-a c = (walk_few c.loop-k.invariant).0
+pub overflow_sub-left : goal.overflow_sub-left
+overflow_sub-left c = (walk_few c.loop-k.invariant).0
 
-pub overflow_sub-b : goal.overflow_sub-b
-overflow_sub-b c = (walk_few c.loop-k.invariant).1
+pub overflow_sub-left-in-loop-k : goal.overflow_sub-left-in-loop-k
+overflow_sub-left-in-loop-k c = (walk_few c.loop-k.invariant).1
 
 pub loop-k-preserved : goal.loop-k-preserved
 loop-k-preserved c = rw c.before-place.ensures (walk_more c.loop-k-test.true c.loop-k.invariant)

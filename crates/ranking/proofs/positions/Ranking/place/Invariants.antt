@@ -2,4 +2,4 @@ use Rattle.ranking.proofs.Ranks.{Walked}
 use Rattle.ranking.proofs.positions.Ranking.place.Given as goal
 
 abbrev pub invariant-loop-k : goal.invariant-loop-k
-invariant-loop-k l = Walked l.self.cells l.mine l.theirs l.k l.x l.y l.a l.b l.place
+invariant-loop-k l = Walked l.self.cells l.mine l.theirs l.k l.x l.y l.left.mine l.left.theirs l.place

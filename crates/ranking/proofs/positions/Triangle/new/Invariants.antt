@@ -1,6 +1,8 @@
-use Rattle.std.proofs.Common.{◌≡◌, length}
-use Rattle.ranking.specs.Triangle.{Rows}
+use Rattle.ranking.proofs.Rows.{Filled}
 use Rattle.ranking.proofs.positions.Triangle.new.Given as goal
 
-abbrev pub invariant-loop-i : goal.invariant-loop-i
-invariant-loop-i l = (length l.numbers ≡ 289) × Rows l.i l.numbers
+abbrev pub invariant-loop-n : goal.invariant-loop-n
+invariant-loop-n l = Filled l.n 0 l.rows
+
+abbrev pub invariant-loop-k : goal.invariant-loop-k
+invariant-loop-k l = Filled l.n l.k l.rows
