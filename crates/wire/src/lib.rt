@@ -1,4 +1,4 @@
-// Calls and answers, as values and as bytes.
+// Calls and answers, refusals among them, as values and as bytes, and the line of an answer.
 #![tactic(auto)]
 
 mod answer;
