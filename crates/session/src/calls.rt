@@ -33,7 +33,7 @@ impl Desk {
     fn of_size(heap: Global, size: Size) -> Result<Desk, AllocError>
         ensures { IfOk result (λ d. desk_game d ≡ games.new_game size.n) }
     {
-        let cells = size.cells() as usize;
+        let cells = usize::from(size.cells());
         let mut stones = vec![in heap; 0; cells]?;
         let mut log = vec![in heap; 0; cells * 2]?;
         let mut parents = vec![in heap; 0; cells * 2]?;
