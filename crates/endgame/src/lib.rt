@@ -7,4 +7,4 @@ mod winner;
 
 pub use links::Links;
 pub use search::{Found, Position, solve};
-pub use winner::{NoWinner, Winner};
+pub use winner::Winner;

@@ -8,7 +8,7 @@ ghost use Rattle.endgame.specs.Findings.{carrier_of, StepsInto, NamesStep};
 ghost use Rattle.endgame.specs.Replies.{Replied};
 
 use super::links::Links;
-use super::winner::{NoWinner, Winner};
+use super::winner::Winner;
 use ranking::{Cells, Ranking, get, lowest, one, put};
 
 // The stones laid since the end began, of the side to move and of the other, and the free cells.
@@ -62,15 +62,16 @@ fn replies(threats: u64, free: u64) -> Cut
             lost: 0,
         };
     };
+    let first = one(threat);
     let Some(another) = cells.next() else {
         return Cut {
-            must: one(threat),
-            lost: one(threat),
+            must: first,
+            lost: first,
         };
     };
     Cut {
         must: 0,
-        lost: one(threat) | one(another),
+        lost: first | one(another),
     }
 }
 
@@ -131,15 +132,14 @@ pub fn solve(
         return Found::Lost { carrier: cut.lost };
     }
     let place = ranking.place(at.mine, at.theirs);
-    match Winner::try_from(get(table, place)) {
-        Ok(Winner::Mover) => {
-            return Found::Won {
+    if let Some(winner) = Winner::of_entry(get(table, place)) {
+        return match winner {
+            Winner::Mover => Found::Won {
                 carrier: at.free,
                 step: None,
-            };
-        }
-        Ok(Winner::Other) => return Found::Lost { carrier: at.free },
-        Err(NoWinner) => {}
+            },
+            Winner::Other => Found::Lost { carrier: at.free },
+        };
     }
     let mut must = cut.must;
     let mut lost = cut.lost;

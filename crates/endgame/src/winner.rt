@@ -9,9 +9,18 @@ pub enum Winner {
     Other,
 }
 
-// An entry that says of neither side that it wins.
-#[derive(Clone, Copy, PartialEq, Eq, Debug)]
-pub struct NoWinner;
+impl Winner {
+    // The winner that an entry tells, if it tells one. This is no TryFrom, since an entry that tells none yet is no error.
+    pub fn of_entry(entry: u8) -> Option<Winner>
+        ensures { Reads entry result }
+    {
+        match entry {
+            1 => Some(Winner::Mover),
+            2 => Some(Winner::Other),
+            _ => None,
+        }
+    }
+}
 
 impl From<Winner> for u8 {
     ghost from_gives = { λ winner entry. entry ≡ entry_of winner };
@@ -20,20 +29,6 @@ impl From<Winner> for u8 {
         match winner {
             Winner::Mover => 1,
             Winner::Other => 2,
-        }
-    }
-}
-
-impl TryFrom<u8> for Winner {
-    type Error = NoWinner;
-
-    ghost try_from_gives = { Reads };
-
-    fn try_from(entry: u8) -> Result<Winner, NoWinner> {
-        match entry {
-            1 => Ok(Winner::Mover),
-            2 => Ok(Winner::Other),
-            _ => Err(NoWinner),
         }
     }
 }

@@ -27,6 +27,7 @@ pub fn make_move(
     let Some(&standing) = stones.get(usize::from(cell)) else {
         return Err(Refusal::NoCell);
     };
+    // This check and the next have no value to hand on; they are `let .. else` so that all three refuse in the same form.
     let None = game.winner else {
         return Err(Refusal::Over);
     };

@@ -9,17 +9,16 @@ use crate::reply::{Reply, with_way};
 pub(crate) fn show(reply: Reply, answer: &mut [u8]) -> usize
     requires room { 8 ≤ length answer.old }
     requires way { 5 + 2 * way_cells reply ≤ length answer.old }
-    ensures { HasBytes reply → Shown (replied reply (drop 5 answer.old)) answer.old answer.new result }
+    requires has_bytes { HasBytes reply }
+    ensures { Shown (replied reply (drop 5 answer.old)) answer.old answer.new result }
 {
     match reply {
         Reply::Way(side, count) => {
             let _ = wire::write_way_head(side, count, answer);
-            5 + 2 * count as usize
+            5 + 2 * usize::from(count)
         }
         Reply::Refused(_) | Reply::Number(_) | Reply::Yes(_) | Reply::No | Reply::TooMany => {
-            let written = wire::write_answer(with_way(reply, &[]), answer);
-            // Never 0: there is room, and a reply to a call has bytes, which the caller knows.
-            written.unwrap_or(0)
+            wire::write_answer(with_way(reply, &[]), answer).unwrap()
         }
     }
 }

@@ -23,17 +23,17 @@ impl Desk {
     pub fn open(heap: Global, n: u16) -> Result<Desk, Unopened>
         ensures { Opened n result }
     {
+        // A `let .. else`, as each check of opening and of a call is: it hands on its value or returns the refusal.
         let Some(size) = Size::new(n) else {
             return Err(Unopened::Refused(Refusal::BadSize));
         };
-        let desk = Desk::of_size(heap, size)?;
-        Ok(desk)
+        Ok(Desk::of_size(heap, size)?)
     }
 
     fn of_size(heap: Global, size: Size) -> Result<Desk, AllocError>
         ensures { IfOk result (λ d. desk_game d ≡ games.new_game size.n) }
     {
-        let cells = size.cells() as usize;
+        let cells = usize::from(size.cells());
         let mut stones = vec![in heap; 0; cells]?;
         let mut log = vec![in heap; 0; cells * 2]?;
         let mut parents = vec![in heap; 0; cells * 2]?;
@@ -148,12 +148,11 @@ impl Desk {
 #[cfg(test)]
 mod tests {
     use super::*;
-    use crate::tests::opened;
     use std::test::Fail;
 
     #[test]
     fn each_side_can_win(rt: HostRuntime) -> Result<(), Fail> {
-        let mut desk = opened(rt.alloc(), 3)?;
+        let mut desk = Desk::open(rt.alloc(), 3)?;
         assert_eq!(rt; desk.take_back(), Err(Refusal::NoMove));
         for (number, cell) in (0u16..).zip([4, 0, 8, 2, 6, 3, 5, 1]) {
             assert_eq!(rt; desk.make_move(cell), Ok(number));
@@ -173,7 +172,7 @@ mod tests {
 
     #[test]
     fn back_to_the_start(rt: HostRuntime) -> Result<(), Fail> {
-        let mut desk = opened(rt.alloc(), 7)?;
+        let mut desk = Desk::open(rt.alloc(), 7)?;
         for cell in [24, 17, 30, 48, 0] {
             desk.make_move(cell)?;
         }

@@ -38,7 +38,7 @@ pub fn memory_for(size: Size) -> usize
     ensures value { result ≡ asked size.n }
     ensures bound { result ≤ within size.n }
 {
-    6 * size.cells() as usize + verdict::table_bytes(size)
+    6 * usize::from(size.cells()) + verdict::table_bytes(size)
 }
 
 // A new game on a board n wide and n tall, n from 1 to 19, in memory that holds anything. The parts hold it, and `Game::new` gives it
@@ -58,7 +58,7 @@ pub fn open(n: u16, memory: &mut [u8]) -> Result<Parts<'_>, Closed<'_>>
             memory,
         });
     }
-    let cells = size.cells() as usize;
+    let cells = usize::from(size.cells());
     let (stones, rest) = memory.split_at_mut(cells);
     let (log, rest) = rest.split_at_mut(2 * cells);
     let (parents, rest) = rest.split_at_mut(2 * cells);
@@ -88,7 +88,7 @@ pub fn call<'a>(
     ensures holds { Holds result.0 (lent result.1.stones.now result.1.log.now result.1.parents.now result.1.borders.now) }
     ensures room { Room result.0.size.n (length result.1.scratch.now) (2 * (result.0.size.n * result.0.size.n)) }
 {
-    let cells = game.size().cells() as usize;
+    let cells = usize::from(game.size().cells());
     if answer.len() < 2 * cells + 8 {
         return (game, parts, None);
     }

@@ -17,7 +17,7 @@ pub fn with_way(reply: Reply, way: &[u8]) -> Answer<&[u8]>
         Answer::Refused(why) => Answer::Refused(why),
         Answer::Number(number) => Answer::Number(number),
         Answer::Way(side, count) => {
-            let end = (2 * count as usize).min(way.len());
+            let end = (2 * usize::from(count)).min(way.len());
             Answer::Way(side, &way[0..end])
         }
         Answer::Yes(cell) => Answer::Yes(cell),

@@ -61,7 +61,7 @@ pub fn who(game: Game, stones: &[u8], scratch: &mut [u8], way: &mut [u8]) -> Opt
 {
     let side = game.winner()?;
     let size = game.size();
-    let part = 2 * size.cells() as usize;
+    let part = 2 * usize::from(size.cells());
     let (queue, rest) = scratch.split_at_mut(part);
     let from = &mut rest[0..part];
     let count = paths::find_way(size, side, stones, queue, from, way)?;

@@ -8,18 +8,12 @@ use wire::{Call, Refusal};
 
 // Fails the test unless this is so.
 fn check(holds: bool) -> Result<(), Fail> {
+    // An `if` reads plainer here than `then_some(())` with `ok_or_else` behind it.
     if holds {
         Ok(())
     } else {
         Err(Fail::new("not as it should be"))
     }
-}
-
-pub(crate) fn opened(heap: Global, n: u16) -> Result<Desk, Fail> {
-    let Ok(desk) = Desk::open(heap, n) else {
-        return Err(Fail::new("not opened"));
-    };
-    Ok(desk)
 }
 
 fn size_refused(heap: Global, n: u16) -> bool {
@@ -45,7 +39,7 @@ fn play(desk: &mut Desk, cells: &[u16]) -> Result<(), Fail> {
 
 #[test]
 fn each_side_can_win(rt: HostRuntime) -> Result<(), Fail> {
-    let mut desk = opened(rt.alloc(), 3)?;
+    let mut desk = Desk::open(rt.alloc(), 3)?;
     play(&mut desk, &[4, 0, 8, 2, 6, 3, 5])?;
     assert_eq!(rt; desk.serve(Call::Who), Reply::Number(0));
     assert_eq!(rt; desk.serve(Call::CanForce), Reply::Yes(Some(1)));
@@ -81,13 +75,13 @@ fn move_refused(desk: &mut Desk, cell: u16, why: Refusal) -> Result<(), Fail> {
 #[test]
 fn the_first_reason_is_told(rt: HostRuntime) -> Result<(), Fail> {
     let heap = rt.alloc();
-    let mut desk = opened(heap, 3)?;
+    let mut desk = Desk::open(heap, 3)?;
     assert_eq!(rt; desk.serve(Call::Back), Reply::Refused(Refusal::NoMove));
     move_refused(&mut desk, 9, Refusal::NoCell)?;
     play(&mut desk, &[4])?;
     move_refused(&mut desk, 4, Refusal::Taken)?;
     move_refused(&mut desk, 9, Refusal::NoCell)?;
-    let mut over = opened(heap, 3)?;
+    let mut over = Desk::open(heap, 3)?;
     play(&mut over, &[4, 0, 1, 2, 6])?;
     move_refused(&mut over, 3, Refusal::Over)?;
     move_refused(&mut over, 4, Refusal::Over)?;
@@ -122,7 +116,7 @@ fn take_all_back(desk: &mut Desk, moves: u16) -> Result<(), Fail> {
 // A whole game is taken back move by move, and played otherwise; every byte that is kept is what it was.
 #[test]
 fn a_game_back_to_the_start(rt: HostRuntime) -> Result<(), Fail> {
-    let mut desk = opened(rt.alloc(), 7)?;
+    let mut desk = Desk::open(rt.alloc(), 7)?;
     let stones = desk.stones.clone()?;
     let log = desk.log.clone()?;
     let parents = desk.parents.clone()?;
@@ -139,6 +133,7 @@ fn a_game_back_to_the_start(rt: HostRuntime) -> Result<(), Fail> {
 
 // What opening in memory of so many bytes is refused for, with the memory as it was.
 fn closed(n: u16, memory: &mut [u8]) -> Result<Refusal, Fail> {
+    // Not by `err()`, which the borrow checker does not cover where the `Ok` that it drops holds several `&mut`.
     let Err(Closed { why, memory }) = open(n, memory) else {
         return Err(Fail::new("opened"));
     };
@@ -149,9 +144,7 @@ fn closed(n: u16, memory: &mut [u8]) -> Result<Refusal, Fail> {
 
 #[test]
 fn memory_too_small(rt: HostRuntime) -> Result<(), Fail> {
-    let Some(size) = Size::new(3) else {
-        return Err(Fail::new("no board is 3 wide"));
-    };
+    let size = Size::new(3).ok_or_else(|| Fail::new("no board is 3 wide"))?;
     assert_eq!(rt; memory_for(size), 1566);
     let mut memory = [7; 1565];
     assert_eq!(rt; closed(0, &mut memory)?, Refusal::BadSize);
@@ -165,14 +158,10 @@ fn memory_too_small(rt: HostRuntime) -> Result<(), Fail> {
 #[test]
 fn one_cell_in_bytes(rt: HostRuntime) -> Result<(), Fail> {
     let heap = rt.alloc();
-    let Some(size) = Size::new(1) else {
-        return Err(Fail::new("no board is 1 wide"));
-    };
+    let size = Size::new(1).ok_or_else(|| Fail::new("no board is 1 wide"))?;
     let mut memory = [7; 1518];
     let mut answer = [9; 10];
-    let Ok(parts) = open(1, &mut memory) else {
-        return Err(Fail::new("not opened"));
-    };
+    let parts = open(1, &mut memory)?;
     let (game, parts, written) = call(Game::new(size), parts, &[0, 0, 0], &mut answer);
     assert_eq!(rt; written, Some(3));
     assert_eq!(rt; answer, [1, 0, 0, 9, 9, 9, 9, 9, 9, 9]);

@@ -1,4 +1,4 @@
-// Calls, answers and boards as text.
+// Lines that ask, read and written, a board as text, and the line that says who has won.
 #![tactic(auto)]
 
 mod drawing;
@@ -52,9 +52,7 @@ mod tests {
             "refused 1 at 9; way 2: 3 260; yes; yes 4; too many; "
         );
         text.clear();
-        let Some(size) = Size::new(3) else {
-            return Err(Fail::new("no board is 3 wide"));
-        };
+        let size = Size::new(3).ok_or_else(|| Fail::new("no board is 3 wide"))?;
         write_board(
             &mut text,
             size,

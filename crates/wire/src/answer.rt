@@ -1,4 +1,4 @@
-// What the desk answers, as values and as bytes.
+// What the desk answers, as values, as bytes and as lines.
 ghost use Rattle.std.specs.Prelude.{◌≡◌, ℕ, ◌<◌, ◌≤◌, ◌∷◌, ◌++◌, length, Some, MatchOption, OnSome, slice_index};
 ghost use Rattle.std.specs.List.{flat_map};
 ghost use Rattle.hexboard.specs.Words.{words};

@@ -1,4 +1,4 @@
-// Calls and answers, as values and as bytes.
+// Calls and answers, refusals among them, as values and as bytes, and the line of an answer.
 #![tactic(auto)]
 
 mod answer;
@@ -47,33 +47,24 @@ mod tests {
         assert_eq!(rt; out, [1, 3, 1, 9]);
     }
 
-    // An answer of each kind, by its number.
-    fn example<'a>(number: u8, way: &'a [u8]) -> Answer<&'a [u8]> {
-        match number {
-            0 => Answer::Refused(Refusal::SmallMemory),
-            1 => Answer::Number(258),
-            2 => Answer::Way(Side::Two, way),
-            3 => Answer::Yes(None),
-            4 => Answer::No,
-            _ => Answer::TooMany,
-        }
-    }
-
     #[test]
     fn answers_as_bytes(rt: HostRuntime) {
         let way = [3, 0, 4, 1];
         let mut out = [9; 10];
-        assert_eq!(rt; write_answer(example(0, &way), &mut out), Ok(5));
+        assert_eq!(rt;
+            write_answer(Answer::Refused(Refusal::SmallMemory), &mut out),
+            Ok(5)
+        );
         assert_eq!(rt; out, [0, 3, 0, 1, 0, 9, 9, 9, 9, 9]);
-        assert_eq!(rt; write_answer(example(1, &way), &mut out), Ok(3));
+        assert_eq!(rt; write_answer(Answer::Number(258), &mut out), Ok(3));
         assert_eq!(rt; out, [1, 2, 1, 1, 0, 9, 9, 9, 9, 9]);
-        assert_eq!(rt; write_answer(example(2, &way), &mut out), Ok(9));
+        assert_eq!(rt; write_answer(Answer::Way(Side::Two, &way), &mut out), Ok(9));
         assert_eq!(rt; out, [2, 2, 0, 2, 0, 3, 0, 4, 1, 9]);
         assert_eq!(rt; write_way_head(Side::One, 2, &mut out), Some(5));
         assert_eq!(rt; out, [2, 1, 0, 2, 0, 3, 0, 4, 1, 9]);
-        assert_eq!(rt; write_answer(example(3, &way), &mut out), Ok(3));
-        assert_eq!(rt; write_answer(example(5, &way), &mut out[3..4]), Ok(1));
-        assert_eq!(rt; write_answer(example(4, &way), &mut out[4..10]), Ok(1));
+        assert_eq!(rt; write_answer(Answer::Yes(None), &mut out), Ok(3));
+        assert_eq!(rt; write_answer(Answer::TooMany, &mut out[3..4]), Ok(1));
+        assert_eq!(rt; write_answer(Answer::No, &mut out[4..10]), Ok(1));
         assert_eq!(rt; out, [3, 0, 0, 5, 4, 3, 0, 4, 1, 9]);
     }
 
@@ -82,11 +73,11 @@ mod tests {
         let way = [3, 0, 4, 1];
         let mut out = [9; 8];
         assert_eq!(rt;
-            write_answer(example(2, &way), &mut out),
+            write_answer(Answer::Way(Side::Two, &way), &mut out),
             Err(Unwritten::Short)
         );
         assert_eq!(rt;
-            write_answer(example(2, &way[1..4]), &mut out),
+            write_answer(Answer::Way(Side::Two, &way[1..4]), &mut out),
             Err(Unwritten::NotCells)
         );
         assert_eq!(rt;

@@ -51,9 +51,9 @@ pub get-requires : goal.get-requires
 get-requires t c =
     omega (arith, c.place-place.ensures, place_below c.args.ranking.now.cells c.args.at.mine c.args.at.theirs c.requires.node.position)
 
-pub returns-in-Ok-Other-clause-tells : goal.returns-in-Ok-Other-clause-tells
-returns-in-Ok-Other-clause-tells t c = told_lost c.args.ranking.now.cells c.args.mine.now c.args.theirs.now c.args.at c.args.table.now c.requires.node
-    (sym (rw c.place-place.ensures at c.get.ensures) ∙ c.in-Ok-Other.ensures ∙ ap entry_of c.in-Ok-Other.field-0-is)
+pub returns-in-Other-clause-tells : goal.returns-in-Other-clause-tells
+returns-in-Other-clause-tells t c = told_lost c.args.ranking.now.cells c.args.mine.now c.args.theirs.now c.args.at c.args.table.now c.requires.node
+    (sym (rw c.place-place.ensures at c.get.ensures) ∙ c.in-Some-of_entry.ensures ∙ ap entry_of c.in-Other.is)
 
 pub loop-must-init : goal.loop-must-init
 loop-must-init t c =

@@ -11,29 +11,23 @@ first c = members_rest c.args.threats c.in-Some.threat c.next.new.self (omega ar
 
 second : (c : In-Some-next) → (bit c.in-Some-next.another (c.args.threats - 2 ^ c.in-Some.threat) ≡ 1) × (c.in-Some-next.another < 64)
 second c =
-    let left = (first (goal.at.one-requires-2 c).In-Some).2 in
+    let left = (first (goal.at.one-requires c).In-Some).2 in
     let (is, small, _) = members_rest (c.args.threats - 2 ^ c.in-Some.threat) c.in-Some-next.another c.next-2.new.self (omega arith) (sym left ∙ c.in-Some-next.ensures.steps) in (is, small)
 
 pub returns-in_default : goal.returns-in_default
 returns-in_default c = no_threat c.args.threats c.args.free
 
-pub one-requires : goal.one-requires
-one-requires c = (first (goal.at.one-requires c).In-Some).1
-
-pub one-requires-in_default-next : goal.one-requires-in_default-next
-one-requires-in_default-next c = (first (goal.at.one-requires-in_default-next c).In-Some).1
+pub one-first-requires : goal.one-first-requires
+one-first-requires c = (first (goal.at.one-first-requires c).In-Some).1
 
 pub returns-in_default-next : goal.returns-in_default-next
 returns-in_default-next c =
-    rw (c.one.ensures, c.one-in_default-next.ensures) (one_threat c.args.threats c.args.free c.in-Some.threat c.requires (first (goal.at.returns-in_default-next c).In-Some).0)
+    rw c.one-first.ensures (one_threat c.args.threats c.args.free c.in-Some.threat c.requires (first (goal.at.returns-in_default-next c).In-Some).0)
 
-pub one-requires-2 : goal.one-requires-2
-one-requires-2 c = (first (goal.at.one-requires-2 c).In-Some).1
-
-pub one-requires-3 : goal.one-requires-3
-one-requires-3 c = (second (goal.at.one-requires-3 c).In-Some-next).1
+pub one-requires : goal.one-requires
+one-requires c = (second (goal.at.one-requires c).In-Some-next).1
 
 pub returns : goal.returns
 returns c =
-    rw (c.one-2.ensures, c.one-3.ensures)
+    rw (c.one-first.ensures, c.one.ensures)
     (two_threats c.args.threats c.args.free c.in-Some.threat c.in-Some-next.another (first (goal.at.returns c).In-Some).0 (second (goal.at.returns c).In-Some-next).0)

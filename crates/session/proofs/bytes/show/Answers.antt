@@ -5,6 +5,6 @@ use Rattle.session.proofs.bytes.show.Goals as goal
 
 pub returns-in-Way : goal.returns-in-Way
 returns-in-Way c =
-    rw c.in-Way.is
-    (λ _. shown_way c.in-Way.side c.in-Way.count c.args.answer.now (omega (arith, ap way_cells c.in-Way.is, c.requires.way))
+    rw (c.in-Way.is, c.from.ensures)
+    (shown_way c.in-Way.side c.in-Way.count c.args.answer.now (omega (arith, ap way_cells c.in-Way.is, c.requires.way))
     c.write_way_head.new.out (λ i. omega (arith, c.type_inv.answer i)) c.write_way_head.result c.write_way_head.ensures.head)
