@@ -5,10 +5,8 @@ use std::test::Fail;
 
 // The way of a side on a board n wide, over scratch memory that holds anything.
 fn way(n: u16, side: Side, cells: &[u8], out: &mut [u8]) -> Result<Option<u16>, Fail> {
-    let Some(size) = Size::new(n) else {
-        return Err(Fail::new("no such size"));
-    };
-    let all = size.cells() as usize;
+    let size = Size::new(n).ok_or_else(|| Fail::new("no such size"))?;
+    let all = usize::from(size.cells());
     let mut queue = [7; 98];
     let mut from = [9; 98];
     if cells.len() != all || all > 49 || out.len() != 98 {

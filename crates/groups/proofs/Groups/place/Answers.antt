@@ -1,8 +1,5 @@
-use Rattle.std.proofs.Common.{◌≡◌, ℕ, ◌+◌, Some, None, sym, refl, ◌∙◌, arith}
-use Rattle.hexboard.specs.Geometry.{neighbour_of}
-use Rattle.hexboard.specs.Sides.{number, by_number}
-use Rattle.hexboard.specs.declared.side.Side.{Side}
-use Rattle.hexboard.specs.declared.side.Side.TheVariants.{One, Two}
+use Rattle.std.proofs.Common.{◌≡◌, Some, sym, ◌∙◌, arith}
+use Rattle.hexboard.specs.Sides.{number}
 use Rattle.hexboard.proofs.Pairs.{stone_number, number_stone}
 use Rattle.hexboard.proofs.Given.{upto_start, upto_next, upto_end}
 use Rattle.groups.specs.Forest.{held}
