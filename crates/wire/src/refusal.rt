@@ -52,7 +52,7 @@ impl Refusal {
     }
 }
 
-// A number and a place that no refusal has.
+// A number and a place that no refusal has. Its line and its trait are written by hand: this crate stands on std and `hexboard` alone.
 #[derive(Clone, Copy, PartialEq, Eq, Debug)]
 pub struct NoRefusal {
     pub number: u16,
