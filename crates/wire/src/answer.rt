@@ -45,8 +45,9 @@ pub fn write_answer(answer: Answer<&[u8]>, out: &mut [u8]) -> Result<usize, Unwr
 {
     match answer {
         Answer::Refused(why) => {
-            let [a, b] = why.number().to_le_bytes();
-            let [c, d] = why.place().to_le_bytes();
+            let (number, place) = why.into();
+            let [a, b] = number.to_le_bytes();
+            let [c, d] = place.to_le_bytes();
             put(&[0, a, b, c, d], out).ok_or(Unwritten::Short)
         }
         Answer::Number(number) => {
