@@ -109,9 +109,7 @@ pub fn count_cells(cells: &[u8]) -> Option<u16>
 pub fn cell_at(cells: &[u8], k: usize) -> Option<u16>
     ensures { MatchOption result (length (words cells.now) ≤ k) (λ cell. (k < length (words cells.now)) × (cell ≡ slice_index (words cells.now) k)) }
 {
-    let (pairs, _) = cells.as_chunks::<2>();
-    let pair = pairs.get(k)?;
-    Some(u16::from_le_bytes(*pair))
+    Words::of(cells).nth(k)
 }
 
 // The answer that the bytes are, where they are one. A way is handed on as the part of the bytes that its cells are.
