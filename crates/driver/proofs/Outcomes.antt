@@ -1,10 +1,11 @@
 -- Who has won, and the board drawn with a way marked.
-use Rattle.std.proofs.Common.{◌≡◌, ℕ, Bool, true, false, not, ◌⊎◌, List, is_some, Some, None, Decides, Option, refl, subst, inl, inr, arith}
+use Rattle.std.proofs.Common.{◌≡◌, ℕ, ◌<◌, Bool, true, false, not, ◌⊎◌, List, is_some, Some, None, Decides, Option, MatchOption, refl, subst, inl, inr, arith}
 use Rattle.hexboard.specs.Games as games
 use Rattle.hexboard.specs.Sides.{number}
 use Rattle.hexboard.specs.declared.side.Side.{Side}
 use Rattle.hexboard.specs.declared.side.Side.TheVariants.{One, Two}
 use Rattle.driver.specs.Drawn.{Outcome, Drawn, Marked, shown_by}
+use Rattle.driver.specs.Served.{TooLong}
 
 one_or_two : (side : Side) → (number side ≡ 1) ⊎ (number side ≡ 2)
 one_or_two One = inl refl
@@ -38,3 +39,8 @@ pub marked : (g h : games.Game) (a : games.Answer) (cells before after : List �
 marked g h a cells before after right is shown =
     let same : h ≡ g = who_keeps right refl in
     (same, (a, subst (λ (k : games.Game). games.Right g games.who a k) same right, subst (λ (k : games.Game). Drawn k (shown_by a) before after) same (subst (λ (xs : List ℕ). Drawn h xs before after) is shown)))
+
+-- an end is too long where a program looks through ends, and the test of how far was met
+pub too_long : (ends : Option ℕ) (r : Bool) (cells : ℕ) {Q : ℕ → Type 0} → r ≡ true → MatchOption ends (r ≡ false) Q → ((x : ℕ) → Q x → x < cells) → TooLong ends cells
+too_long None r cells yes' none f = absurd cc
+too_long (Some x) r cells yes' some f = f x some

@@ -19,22 +19,15 @@ impl Limits {
     pub(crate) fn leaves_out(self, call: Call) -> bool
         ensures { Decides result (Unserved self call) }
     {
-        match call {
-            Call::Move(_) | Call::Back | Call::Who => false,
-            Call::CanForce => self.ends.is_none(),
-        }
+        call == Call::CanForce && self.ends.is_none()
     }
 
     // Whether the call asks to look through an end that is too long.
     pub(crate) fn is_beyond(self, desk: &Desk, call: Call) -> bool
         ensures { Decides result (Beyond self (desk_game desk.now) call) }
     {
-        let Some(ends) = self.ends else {
-            return false;
-        };
-        match call {
-            Call::Move(_) | Call::Back | Call::Who => false,
-            Call::CanForce => ends < desk.empty_cells() && desk.winner().is_none(),
-        }
+        call == Call::CanForce
+            && self.ends.is_some_and(|ends| ends < desk.empty_cells())
+            && desk.winner().is_none()
     }
 }

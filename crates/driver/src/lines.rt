@@ -1,9 +1,8 @@
 // One line in, one line out.
 ghost use Rattle.std.specs.Prelude.{◌≡◌, ℕ, List, ◌++◌, IfOk, string_bytes, codes, decimal, OnOk};
 ghost use Rattle.session.specs.Desks.{desk_game};
-ghost use Rattle.session.specs.Replies.{replied};
 ghost use Rattle.text.specs.Lines.{Asks};
-ghost use Rattle.driver.specs.Served.{trimmed, answer_is_taken, first_served, Opens, opening, Reopened, Called, Told, ToldFirst, LineServed};
+ghost use Rattle.driver.specs.Served.{trimmed, first_served, Opens, opening, Reopened, Called, Told, ToldFirst, LineServed};
 
 use crate::failed::Failed;
 use crate::limits::Limits;
@@ -148,19 +147,7 @@ fn serve(limits: Limits, desk: &mut Desk, call: Call, out: &mut String) -> Resul
     };
     let answer = with_way(reply, desk.way());
     write!(out, "{answer}")?;
-    Ok(served_by(reply))
-}
-
-// A reply is a refusal, or what was asked is taken.
-fn served_by(reply: Reply) -> Served
-    ensures { (way : List ℕ) → result ≡ answer_is_taken (replied reply way) }
-{
-    match reply {
-        Reply::Refused(_) => Served::Refused,
-        Reply::Number(_) | Reply::Way(..) | Reply::Yes(_) | Reply::No | Reply::TooMany => {
-            Served::Taken
-        }
-    }
+    Ok(Served::from(reply))
 }
 
 // A new board in the place of the one there is, unless n is out of range.
@@ -208,7 +195,7 @@ pub fn answer_line(
     }
 }
 
-// A first line is taken if it opened a board.
+// A first line is taken if it opened a board. This is no `From`: that a board is open says so of a first line alone.
 fn first_served(opened: &Option<Desk>) -> Served
     ensures { result ≡ first_served opened.now }
 {

@@ -10,9 +10,9 @@ mod tests {
     use std::test::Fail;
     use verdict::{Verdict, can_force, table_bytes};
 
-    // What is answered after these moves. None on a board more than 5 wide, or if the table is too short.
+    // What is answered after these moves. None on a board more than 5 wide, if the table is too short, or where a move is refused.
     fn after(size: Size, moves: &[u16], table: &mut [u8]) -> Option<Verdict> {
-        let cells = size.cells() as usize;
+        let cells = usize::from(size.cells());
         if cells > 25 || table.len() < table_bytes(size) {
             return None;
         }
@@ -25,7 +25,7 @@ mod tests {
         Groups { parents, borders }.clear(size);
         let mut side = Side::One;
         for cell in moves {
-            let _ = hexboard::place(stones, side, *cell);
+            hexboard::place(stones, side, *cell).ok()?;
             Groups { parents, borders }.place(size, stones, side, *cell);
             side = side.opponent();
         }
@@ -46,9 +46,7 @@ mod tests {
 
     // The same on a board 5 wide.
     fn middle(heap: Global, moves: &[u16]) -> Result<Option<Verdict>, AllocError> {
-        let Some(size) = Size::new(5) else {
-            return Ok(None);
-        };
+        let size = Size::new(5).unwrap();
         let mut table = vec![in heap; 7; table_bytes(size)]?;
         Ok(after(size, moves, &mut table))
     }
@@ -59,7 +57,7 @@ mod tests {
         assert!(rt; matches!(small(3, &[]), Some(Verdict::Yes(2..=6))));
         for cell in 0..9 {
             let forces = small(3, &[cell]) == Some(Verdict::No);
-            assert_eq!(rt; forces, cell >= 2 && cell <= 6);
+            assert_eq!(rt; forces, (2..=6).contains(&cell));
         }
     }
 

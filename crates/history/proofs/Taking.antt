@@ -1,6 +1,6 @@
 -- A move is taken back: what the game and the memory are afterwards, and that this is right. And a new game.
 use Rattle.std.proofs.Common.{◌≡◌, ℕ, ◌+◌, ◌-◌, ◌*◌, ◌/◌, ◌<◌, true, List, [], ◌∷◌, ◌++◌, length, get_or, take, set, replicate, is_some, Some, None, Option, sym, refl, ap, ◌∙◌, subst, ⊎_elim, arith}
-use Rattle.std.proofs.lemmas.List.{length_push, length-replicate, length-set, length-take-le, take_more, take-set}
+use Rattle.std.proofs.lemmas.List.{length_push, length-replicate, length-take-le, take_more, take-set}
 use Rattle.std.proofs.lemmas.Bool.{cases_eq, lt-ltb}
 use Rattle.hexboard.specs.Board.{pick, all_cells, Connects}
 use Rattle.hexboard.specs.Games as games
@@ -8,9 +8,8 @@ use Rattle.hexboard.specs.Words.{words, word_of}
 use Rattle.hexboard.proofs.Boards.{all_cells_replicate}
 use Rattle.hexboard.proofs.TwoBytes.{words_length, words_cleared}
 use Rattle.groups.specs.Forest.{held}
-use Rattle.groups.specs.Moves.{start, played, is_fair, board_of, turn_of, forest_of, Legal}
+use Rattle.groups.specs.Moves.{played, is_fair, board_of, forest_of, Legal}
 use Rattle.groups.specs.Meaning.{Open}
-use Rattle.groups.proofs.Positions.{legal_last, free_parts, played_push}
 use Rattle.history.specs.Played.{game_of, Played, winner_of, Kept}
 use Rattle.history.specs.Holds.{won_by, Memory, moves_in, formal, Holds, Served}
 use Rattle.history.specs.declared.game.Game.{Game}
@@ -66,14 +65,6 @@ module _ (g : Game) (m : Memory) (now-held : Holds g m) (last : ℕ) (one : last
 
   pub last_is : (o : Option ℕ) (cell : ℕ) → o ≡ word_of m.log last → o ≡ Some cell → cell ≡ x
   last_is o cell e f = let z : Some cell ≡ Some x = sym f ∙ (e ∙ last_word) in cc
-
-  -- and it went to a cell of the board
-  pub last_on : x < length m.stones
-  last_on =
-      let on = (free_parts (board_of n ks) x (legal_last n ks x legal_now).1).0 in
-      let same : m.stones ≡ set (board_of n ks).cells x (turn_of n ks) =
-      now-held.kept.stones_are ∙ ap (λ (xs : List ℕ). (board_of n xs).cells) moves_are ∙ ap (λ p. p.board.cells) (played_push (start n) ks x) in
-      omega (arith, ap length same, length-set (board_of n ks).cells x (turn_of n ks), on)
 
   -- a move less is the right answer to a take-back
   right_back : (j : ℕ) → j ≡ last → games.Right (formal g m) games.back (games.number j) (game_of n ks)

@@ -24,6 +24,7 @@ pub fn make_move(
     requires { Holds game (lent stones.old log.old parents.old borders.old) }
     ensures { Settled game (lent stones.old log.old parents.old borders.old) (games.moves cell) (λ _. game.count) (lent stones.new log.new parents.new borders.new) result }
 {
+    // A `let .. else`, as every check of opening and of a call is: so all refuse alike, and each hands on its value.
     let Some(&standing) = stones.get(usize::from(cell)) else {
         return Err(Refusal::NoCell);
     };
@@ -36,6 +37,7 @@ pub fn make_move(
     };
     let side = game.turn();
     Groups { parents, borders }.place(game.size, stones, side, cell);
+    // Not by `hexboard::place`, which would check again what is checked above.
     stones[usize::from(cell)] = u8::from(side);
     let _ = hexboard::set_word(log, game.count, cell);
     // Each field by name: `..game` is not covered for a struct with a ghost field.
@@ -57,12 +59,13 @@ pub fn take_back(
     requires { Holds game (lent stones.old log.old parents.old borders.old) }
     ensures { Settled game (lent stones.old log.old parents.old borders.old) games.back (λ h. h.count) (lent stones.new log.new parents.new borders.new) result }
 {
+    // A `let .. else`, as the checks of a move are: it refuses as they do, and hands on the last move's number.
     let Some(last) = game.count.checked_sub(1) else {
         return Err(Refusal::NoMove);
     };
     let cell = hexboard::word(log, last).unwrap();
     Groups { parents, borders }.lift(game.size, cell);
-    stones[usize::from(cell)] = 0;
+    let _ = hexboard::lift(stones, cell);
     let _ = hexboard::set_word(log, last, 0);
     Ok(Game {
         size: game.size,

@@ -133,20 +133,18 @@ pub fn serve_input<P: Printing>(
 ) -> anyhow::Result<()> {
     let heap = rt.alloc();
     let mut desk = None;
-    let mut times = Times::NONE;
+    let mut times = timed.then_some(Times::NONE);
     let mut out = String::new(heap);
     for (number, line) in (1u64..).zip(BufReader::new(heap, rt.stdin())?.split(heap, b'\n')) {
         let line = line?;
         out.clear();
         // The clock is read only where times are told.
-        let start = if timed { Some(Instant::now(rt)?) } else { None };
+        let start = times.is_some().then(|| Instant::now(rt)).transpose()?;
         let served = answer_line(heap, limits, &mut desk, line.as_slice(), &mut out)?;
-        let took = match start {
-            Some(start) => Some(start.elapsed(rt)?),
-            None => None,
-        };
+        let took = start.map(|start| start.elapsed(rt)).transpose()?;
         let kind = kind_of(line.as_slice());
-        if let Some(kind) = kind
+        if let Some(times) = &mut times
+            && let Some(kind) = kind
             && let Some(took) = took
         {
             times.note(kind, took);
@@ -159,7 +157,7 @@ pub fn serve_input<P: Printing>(
         printing.print_line(rt, line, &mut desk, &mut out)?;
     }
     printing.print_end(rt, &desk)?;
-    if timed {
+    if let Some(times) = times {
         out.clear();
         write_times(&mut out, times)?;
         rt.eprint(out.as_str())?;

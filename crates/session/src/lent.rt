@@ -46,6 +46,7 @@ pub fn memory_for(size: Size) -> usize
 pub fn open(n: u16, memory: &mut [u8]) -> Result<Parts<'_>, Closed<'_>>
     ensures { MatchResult result (λ p. New n (lent p.stones.now p.log.now p.parents.now p.borders.now) (length p.scratch.now)) (λ e. (e.memory.now ≡ memory.old) × NotOpened n (length memory.old) e.why) }
 {
+    // A `let .. else`, as the check of `Desk::open` is; the refusal hands the memory back.
     let Some(size) = Size::new(n) else {
         return Err(Closed {
             why: Refusal::BadSize,

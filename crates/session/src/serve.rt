@@ -28,6 +28,7 @@ pub fn serve(
     way: &mut [u8],
 ) -> (Game, Reply)
     requires holds { Holds game (lent stones.old log.old parents.old borders.old) }
+    // Asked here, by `who` and by `call`, and kept by no type: the parts are slices, lent one by one (docs/DECISIONS.md, Memory).
     requires room { Room game.size.n (length scratch.old) (length way.old) }
     ensures { Answered game (lent stones.old log.old parents.old borders.old) (beside scratch.old way.old) call result.0 (lent stones.new log.new parents.new borders.new) (beside scratch.new way.new) result.1 }
 {

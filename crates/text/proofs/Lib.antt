@@ -3,6 +3,7 @@ mod Again
 mod Asked
 mod Columns
 mod Fronts
+mod Indented
 mod Marked
 mod Numbers
 mod Words

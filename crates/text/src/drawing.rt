@@ -1,7 +1,7 @@
 // Writes a board as text, and who has won.
-ghost use Rattle.std.specs.Prelude.{◌≡◌, ℕ, ◌<◌, Bool, List, ◌++◌, string_bytes, OnOk, slice_index};
+ghost use Rattle.std.specs.Prelude.{◌≡◌, ℕ, ◌<◌, Bool, List, ◌++◌, Some, string_bytes, OnOk, slice_index};
 ghost use Rattle.hexboard.specs.Words.{words};
-ghost use Rattle.text.specs.Boards.{mark, gap, among, spaces, row_cells, row_line, board_lines, outcome_line};
+ghost use Rattle.text.specs.Boards.{mark, gap, among, spaces, row_cells, board_lines, outcome_line};
 
 use hexboard::{Side, Size, Words};
 use std::fmt;
@@ -13,9 +13,14 @@ use std::fmt::Write;
 pub fn write_board(out: &mut String, size: Size, cells: &[u8], way: &[u8]) -> fmt::Result
     ensures { OnOk result (string_bytes out.new ≡ string_bytes out.old ++ board_lines size.n cells.now (words way.now)) }
 {
-    let drawing = Drawing { size, cells, way };
     for row in 0..size.width() {
-        drawing.write_row(out, row)?;
+        let row = Row {
+            size,
+            cells,
+            way,
+            row,
+        };
+        writeln!(out, "{row}")?;
     }
     Ok(())
 }
@@ -37,39 +42,35 @@ fn outcome(winner: Option<Side>) -> &'static str
     }
 }
 
-// A board as it is drawn: its size, the bytes of its cells, one a cell, and those of the cells that are marked, two a cell.
+// A row of a board as it is drawn: the board's size, the bytes of its cells, one a cell, and those of the cells that are marked, two a
+// cell; and which row it is, from 0.
 #[derive(Clone, Copy)]
-struct Drawing<'a> {
+struct Row<'a> {
     size: Size,
     cells: &'a [u8],
     way: &'a [u8],
+    row: u16,
+    ghost on_board: { row < size.n },
 }
 
-impl Drawing<'_> {
-    // Adds the line of a row, with its end.
-    fn write_row(&self, out: &mut String, row: u16) -> fmt::Result
-        requires { row < self.now.size.n }
-        ensures { OnOk result (string_bytes out.new ≡ string_bytes out.old ++ row_line self.now.size.n self.now.cells.now (words self.now.way.now) row) }
-    {
-        write_spaces(out, row)?;
-        self.write_cells(out, row)?;
-        out.write_str("\n")
-    }
+// The line of the row, without its end: as many spaces as there are rows above it, and its cells, with a space between two of them.
+impl fmt::Display for Row<'_> {
+    ghost output = { λ row. Some (spaces row.row ++ row_cells row.size.n row.cells.now (words row.way.now) row.row) };
 
-    // Adds the cells of a row, with a space between two of them.
-    fn write_cells(&self, out: &mut String, row: u16) -> fmt::Result
-        requires { row < self.now.size.n }
-        ensures { OnOk result (string_bytes out.new ≡ string_bytes out.old ++ row_cells self.now.size.n self.now.cells.now (words self.now.way.now) row) }
-    {
+    fn fmt<W: fmt::Write>(&self, f: &mut fmt::Formatter<W>) -> fmt::Result {
+        let indent = usize::from(self.row);
+        write!(f, "{:indent$}", "")?;
         for column in 0..self.size.width() {
-            let cell = row * self.size.width() + column;
+            let cell = self.row * self.size.width() + column;
             let gap = gap(column);
             let mark = self.mark(cell);
-            write!(out, "{gap}{mark}")?;
+            write!(f, "{gap}{mark}")?;
         }
         Ok(())
     }
+}
 
+impl Row<'_> {
     // The character of a cell: the number of the side whose stone stands there, if any, or on the way its letter.
     fn mark(&self, cell: u16) -> &'static str
         ensures { result.now ≡ mark (slice_index self.now.cells.now cell) (among (words self.now.way.now) cell) }
@@ -89,15 +90,6 @@ impl Drawing<'_> {
     {
         Words::of(self.way).any(|each| each == cell)
     }
-}
-
-fn write_spaces(out: &mut String, count: u16) -> fmt::Result
-    ensures { OnOk result (string_bytes out.new ≡ string_bytes out.old ++ spaces count) }
-{
-    for _ in 0..count {
-        out.write_str(" ")?;
-    }
-    Ok(())
 }
 
 // What stands before the cell in this column: a space if there is a cell before it.

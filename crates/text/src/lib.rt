@@ -13,7 +13,6 @@ pub use reading::{Line, read_line};
 mod tests {
     use super::*;
     use hexboard::{Side, Size};
-    use std::fmt;
     use std::fmt::Write;
     use std::test::Fail;
     use wire::{Answer, Call, Refusal};
@@ -43,10 +42,25 @@ mod tests {
     #[test]
     fn writes_text(rt: HostRuntime) -> Result<(), Fail> {
         let mut text = String::new(rt.alloc());
-        add_lines(&mut text)?;
+        for line in [
+            Line::Board(19),
+            Line::Call(Call::Move(12)),
+            Line::Call(Call::CanForce),
+        ] {
+            write!(text, "{line}; ")?;
+        }
         assert_eq!(rt; text.as_str(), "board 19; move 12; can force; ");
         text.clear();
-        add_answers(&mut text)?;
+        let answers: [Answer<&[u8]>; 5] = [
+            Answer::Refused(Refusal::Unreadable(9)),
+            Answer::Way(Side::Two, &[3, 0, 4, 1]),
+            Answer::Yes(None),
+            Answer::Yes(Some(4)),
+            Answer::TooMany,
+        ];
+        for answer in answers {
+            write!(text, "{answer}; ")?;
+        }
         assert_eq!(rt;
             text.as_str(),
             "refused 1 at 9; way 2: 3 260; yes; yes 4; too many; "
@@ -62,27 +76,5 @@ mod tests {
         write_outcome(&mut text, Some(Side::One))?;
         assert_eq!(rt; text.as_str(), "A 2 .\n 2 A .\n  . A .\nside 1 has won");
         Ok(())
-    }
-
-    fn add_lines(text: &mut String) -> fmt::Result {
-        add_line(text, Line::Board(19))?;
-        add_line(text, Line::Call(Call::Move(12)))?;
-        add_line(text, Line::Call(Call::CanForce))
-    }
-
-    fn add_line(text: &mut String, line: Line) -> fmt::Result {
-        Ok(write!(text, "{line}; ")?)
-    }
-
-    fn add_answers(text: &mut String) -> fmt::Result {
-        add_answer(text, Answer::Refused(Refusal::Unreadable(9)))?;
-        add_answer(text, Answer::Way(Side::Two, &[3, 0, 4, 1]))?;
-        add_answer(text, Answer::Yes(None))?;
-        add_answer(text, Answer::Yes(Some(4)))?;
-        add_answer(text, Answer::TooMany)
-    }
-
-    fn add_answer(text: &mut String, answer: Answer<&[u8]>) -> fmt::Result {
-        Ok(write!(text, "{answer}; ")?)
     }
 }

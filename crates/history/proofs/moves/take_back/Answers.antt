@@ -2,7 +2,7 @@ use Rattle.std.proofs.Common.{rules, ◌≡◌, ◌+◌, [], ◌∷◌, ◌++◌
 use Rattle.hexboard.specs.Words.{words}
 use Rattle.groups.specs.Moves.{forest_of, Legal}
 use Rattle.history.specs.Holds.{lent}
-use Rattle.history.proofs.Taking.{right_none_made, legal_now, groups_now, last_there, last_is, last_on, served_back}
+use Rattle.history.proofs.Taking.{right_none_made, legal_now, groups_now, last_there, last_is, served_back}
 use Rattle.history.proofs.moves.take_back.Goals as goal
 
 pub returns-in_default : goal.returns-in_default
@@ -11,12 +11,6 @@ returns-in_default c = record { right = right_none_made _ (lent _ _ _ _) c.requi
 pub unwrap-cell-requires : goal.unwrap-cell-requires
 unwrap-cell-requires c = last_there c.args.game (lent _ c.args.log.now _ _) c.requires c.in-Some.last (omega (arith, c.in-Some.ensures)) _ c.word.ensures
 
-pub bounds-stones-from : goal.bounds-stones-from
-bounds-stones-from c =
-    let one : c.in-Some.last + 1 ≡ c.args.game.count = omega (arith, c.in-Some.ensures) in
-    let m = lent c.args.stones.now c.args.log.now c.args.parents.now c.args.borders.now in
-    omega (arith, last_is c.args.game m c.requires c.in-Some.last one _ _ c.word.ensures c.unwrap-cell.ensures, last_on c.args.game m c.requires c.in-Some.last one)
-
 pub returns : goal.returns
 returns c =
     let one : c.in-Some.last + 1 ≡ c.args.game.count = omega (arith, c.in-Some.ensures) in
@@ -24,7 +18,7 @@ returns c =
     let last = c.in-Some.last in
     let ks = take last (words c.args.log.now) in
     let is = last_is c.args.game m c.requires last one _ _ c.word.ensures c.unwrap-cell.ensures in
-    served_back c.args.game m c.requires last one _ _ refl refl refl (ap (λ x. set c.args.stones.now x 0) (c.from.ensures ∙ is)) c.set_word.ensures.after
+    served_back c.args.game m c.requires last one _ _ refl refl refl (c.lift-2.ensures.after ∙ ap (λ x. set c.args.stones.now x 0) is) c.set_word.ensures.after
     (omega (arith, c.set_word.auto.bytes))
     (c.lift.ensures.back ks
     (subst (λ x. Legal c.args.game.size.n (ks ++ (x ∷ []))) (sym is) (legal_now c.args.game m c.requires last one))

@@ -4,4 +4,4 @@ use Rattle.text.specs.Boards.{each, row_line}
 use Rattle.text.proofs.drawing.write_board.Given as goal
 
 abbrev pub invariant-loop-row : goal.invariant-loop-row
-invariant-loop-row l = string_bytes l.out ≡ string_bytes l.initial.out ++ each l.row (row_line l.drawing.size.n l.drawing.cells.now (words l.drawing.way.now))
+invariant-loop-row l = string_bytes l.out ≡ string_bytes l.initial.out ++ each l.row (row_line l.size.n l.cells (words l.way))
