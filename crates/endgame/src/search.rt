@@ -106,7 +106,8 @@ fn best(mine: &Links, theirs: &Links, at: Position, must: u64) -> u32
 // helps, and where on one, it is stopped. A position that is not decided so is searched once: what is found goes into the table.
 // After a move that loses only the cells of the winner's carrier are tried, since any other move would leave that win as it is.
 //
-// The parameters stand apart: lent as one struct of references the search took longer, 20.3 ms and not 19.9 for the ends of random-5.
+// The parameters stand apart: two of them change places with every move, so a struct of them would be made anew for each. Lent so, the
+// search took longer, 20.3 ms and not 19.9 for the ends of random-5.
 pub fn solve(
     ranking: &Ranking,
     table: &mut [u8],
@@ -143,6 +144,7 @@ pub fn solve(
     }
     let mut must = cut.must;
     let mut lost = cut.lost;
+    // Not a walk over a set's cells: each answer takes the cell that was tried out of it, and others.
     while must > 0 {
         let step = best(mine, theirs, at, must);
         match solve(ranking, table, theirs, mine, at.after(step)) {

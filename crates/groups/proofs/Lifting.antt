@@ -5,6 +5,7 @@ use Rattle.std.proofs.lemmas.Bool.{cases_eq, cases_lt}
 use Rattle.std.proofs.lemmas.Bool.Decides.{nat_tests}
 use Rattle.hexboard.specs.Board.{pick, Board, at}
 use Rattle.hexboard.specs.Rows.{Stone}
+use Rattle.hexboard.specs.Geometry.{over}
 use Rattle.groups.specs.Forest.{Forest, parent, root, join, take_in, adopt, alone, freed, free, lift}
 use Rattle.groups.proofs.Chains.{last_own}
 use Rattle.groups.proofs.Climbs.{Rooted, climb_root, root_top, root_parent}
@@ -102,7 +103,7 @@ module _ (b : Board) (s x bits : ℕ) (next : ℕ → Option ℕ) (f : Forest) (
 
   -- Roots come to hang from x, and nothing else happens to the parents.
   pub all_taken : (m : ℕ) → Taken x f.parents (adopt b s x next m (alone x bits f)).parents
-  unfolding adopt
+  unfolding over
   all_taken zero = record { long = refl; each = λ i. inl refl }
   all_taken (suc m) = taken_in _ (next m) (rooted m) (all_taken m)
 
@@ -113,7 +114,7 @@ module _ (b : Board) (s x bits : ℕ) (next : ℕ → Option ℕ) (f : Forest) (
 
   -- Nobody's bits change but those of x.
   pub cleared : (m : ℕ) → set (adopt b s x next m (alone x bits f)).borders x 0 ≡ set f.borders x 0
-  unfolding adopt
+  unfolding over
   cleared zero = set-set f.borders x bits 0
   cleared (suc m) = cleared_in _ (next m) ∙ cleared m
 

@@ -1,10 +1,12 @@
 -- A stone comes to an empty cell: it stands alone first, then meets its neighbours one by one, for any nearness and any borders.
-use Rattle.std.proofs.Common.{◌≡◌, ℕ, zero, suc, ◌+◌, ◌<◌, Bool, true, eqb, ◌≢◌, ◌⊎◌, List, length, get_or, set, Some, None, Option, sym, refl, ap, ◌∙◌, subst, subst₂, inl, inr, ⊎_elim, add-one, arith}
+use Rattle.std.proofs.Common.{◌≡◌, ℕ, zero, suc, ◌+◌, ◌<◌, Bool, true, eqb, ◌≢◌, ◌⊎◌, List, length, get_or, set, Some, None, Option, sym, refl, ap, ◌∙◌, subst, subst₂, inl, inr, ⊎_elim, arith}
 use Rattle.std.proofs.lemmas.List.{length-set, get_or-set_same, get_or-set_other, get_or_past}
 use Rattle.std.proofs.lemmas.Bool.{cases_eq, cases_lt, eq-eqb, ne_eqb}
 use Rattle.std.proofs.lemmas.Option.{none-some}
 use Rattle.hexboard.specs.Board.{pick, Board, at, put}
+use Rattle.hexboard.specs.Geometry.{over}
 use Rattle.hexboard.specs.Rows.{Chain, here, Stone}
+use Rattle.hexboard.proofs.Given.{over_end, over_met}
 use Rattle.groups.specs.Forest.{Forest, parent, root, join, take_in, adopt, alone}
 use Rattle.groups.proofs.Chains.{last_own, carried}
 use Rattle.groups.proofs.Climbs.{Rooted, climb_root}
@@ -19,31 +21,24 @@ Touching near b i j = (t : ℕ) × (t ≢ 0) × Stone b t i × Stone b t j × (n
 abbrev pub Grouped : (ℕ → ℕ → Bool) → (ℕ → ℕ → ℕ) → Board → Forest → Type 0
 Grouped near bits b f = Groups near bits b (Touching near b) f
 
--- No neighbour has been looked at.
-pub adopt_none : (b : Board) (s x : ℕ) (next : ℕ → Option ℕ) (f : Forest) → f ≡ adopt b s x next 0 f
-unfolding adopt
-adopt_none b s x next f = refl
+-- One more neighbour is looked at: there is none, it is a stone of side s, or it is not.
+module _ (b : Board) (s x : ℕ) (next : ℕ → Option ℕ) (f h : Forest) where
+  pub adopt_end : (k : ℕ) → next k ≡ None → h ≡ adopt b s x next k f → h ≡ adopt b s x next (k + 1) f
+  adopt_end = over_end (take_in b s x) (λ g. refl) next f h
 
--- The first k have been looked at, and one more is: there is none, it is a stone of side s, or it is not.
-module _ (b : Board) (s x : ℕ) (next : ℕ → Option ℕ) (k : ℕ) (f h : Forest) (so_far : h ≡ adopt b s x next k f) where
-  adopt_more : (o : Option ℕ) (new : Forest) → next k ≡ o → new ≡ take_in b s x o h → new ≡ adopt b s x next (k + 1) f
-  unfolding adopt
-  adopt_more o new e t = rw (add-one, e) (t ∙ ap (take_in b s x o) so_far)
+  module _ (k : ℕ) (y : ℕ) (is : next k ≡ Some y) (so_far : h ≡ adopt b s x next k f) where
+    pub adopt_stone : (r : ℕ) (new : Forest) → at b y ≡ s → r ≡ root h.parents y → new ≡ join r x h → new ≡ adopt b s x next (k + 1) f
+    adopt_stone r new own up t =
+        over_met (take_in b s x) next k f h new y is so_far
+        (t ∙ ap (λ q. join q x h) up ∙ ap (λ c. pick c (join (root h.parents y) x h) h) (sym (eq-eqb (at b y) s own)))
 
-  pub adopt_end : next k ≡ None → h ≡ adopt b s x next (k + 1) f
-  adopt_end e = adopt_more None h e refl
-
-  pub adopt_stone : (y r : ℕ) (new : Forest) → next k ≡ Some y → at b y ≡ s → r ≡ root h.parents y → new ≡ join r x h → new ≡ adopt b s x next (k + 1) f
-  adopt_stone y r new e is up t =
-      adopt_more (Some y) new e (t ∙ ap (λ q. join q x h) up ∙ ap (λ c. pick c (join (root h.parents y) x h) h) (sym (eq-eqb (at b y) s is)))
-
-  pub adopt_other : (y : ℕ) → next k ≡ Some y → (at b y ≡ s → ⊥) → h ≡ adopt b s x next (k + 1) f
-  adopt_other y e isnt = adopt_more (Some y) h e (ap (λ c. pick c (join (root h.parents y) x h) h) (sym (ne_eqb (at b y) s isnt)))
+    pub adopt_other : (at b y ≡ s → ⊥) → h ≡ adopt b s x next (k + 1) f
+    adopt_other isnt = over_met (take_in b s x) next k f h h y is so_far (ap (λ c. pick c (join (root h.parents y) x h) h) (sym (ne_eqb (at b y) s isnt)))
 
 -- Only what lies next to x is looked at: boards that are the same there are the same to it.
 pub adopt_alike : (b c : Board) (s x : ℕ) (next : ℕ → Option ℕ) → ((k y : ℕ) → next k ≡ Some y → at b y ≡ at c y) →
     (m : ℕ) (f : Forest) → adopt b s x next m f ≡ adopt c s x next m f
-unfolding adopt
+unfolding over
 adopt_alike b c s x next same zero f = refl
 adopt_alike b c s x next same (suc m) f = look (next m) refl ∙ ap (take_in c s x (next m)) (adopt_alike b c s x next same m f)
   where
@@ -184,7 +179,7 @@ module _ (b : Board) (s x : ℕ) (side : s ≢ 0) (on : x < length b.cells) (fre
           (cases_eq (at b y) s)
 
       growing : (m : ℕ) → Growing m (adopt b s x next m (alone x (bits s x) f))
-      unfolding adopt
+      unfolding over
       growing zero = (now_met alone_groups (λ i j. ⊎_elim (g.meets i j) (λ a. omega (arith, a.1))), (g.lone x free).0)
       growing (suc m) = one_more m _ (next m) refl (growing m)
 

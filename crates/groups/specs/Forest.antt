@@ -1,7 +1,7 @@
 -- Groups of stones as a forest: each stone hangs from a later stone of its group, and the latest, the root, has the group's borders.
 use Rattle.std.specs.Prelude.{ℕ, zero, suc, List, length, Some, None, Option, ◌==◌, bit_or, slice_index, slice_index_or, slice_set}
 use Rattle.hexboard.specs.Board.{pick, Board, at}
-use Rattle.hexboard.specs.Geometry.{neighbour_of, touch}
+use Rattle.hexboard.specs.Geometry.{neighbour_of, touch, over}
 use Rattle.hexboard.specs.Words.{words}
 
 -- For each cell its parent, and borders of its side as two bits, 1 for the first and 2 for the last. A root is its own parent, and
@@ -39,9 +39,8 @@ take_in b s x None f = f
 take_in b s x (Some y) f = pick (at b y == s) (join (root f.parents y) x f) f
 
 -- the first k neighbours of x are looked at, one by one
-unfoldable pub adopt : Board → ℕ → ℕ → (ℕ → Option ℕ) → ℕ → Forest → Forest
-adopt b s x next zero f = f
-adopt b s x next (suc k) f = take_in b s x (next k) (adopt b s x next k f)
+abbrev pub adopt : Board → ℕ → ℕ → (ℕ → Option ℕ) → ℕ → Forest → Forest
+adopt b s x next k f = over (take_in b s x) next k f
 
 -- a lone stone with its bits comes to cell x
 abbrev pub alone : ℕ → ℕ → Forest → Forest

@@ -3,15 +3,12 @@ use Rattle.std.proofs.Common.{◌≡◌, ℕ, zero, suc, ◌+◌, ◌*◌, ◌/�
 use Rattle.std.proofs.lemmas.Bool.Decides.{nat_tests, same_from_decides}
 use Rattle.std.proofs.lemmas.Bool.{lt-ltb}
 use Rattle.std.proofs.lemmas.Int.{ints}
+use Rattle.std.proofs.lemmas.Option.{none-some}
 use Rattle.std.proofs.lemmas.Nat.{div-mul-add, mod-mul-add, mul-add-lt, div-add-mod', div_below, mod_below}
 use Rattle.hexboard.specs.Board.{right_of, below, up_right, next_to, begins, ends}
 use Rattle.std.specs.List.{Contains}
 use Rattle.hexboard.specs.Geometry.{cell_of, step_to, toward, neighbour_of, neighbours, Beside, AllNeighbours, touch}
 use Rattle.hexboard.proofs.Given.{given_only, given_all}
-
--- Nothing is not something.
-none_some : {j : ℕ} → None ≡ Some j → ⊥
-none_some {j} h = let z : ◌≡◌ {A = ℕ} 0 1 = cc in omega arith
 
 -- A board that has a cell is at least one wide.
 pub some_width : (n i : ℕ) → i < n * n → 0 < n
@@ -32,9 +29,9 @@ on_place n (pos r) (pos c) j h =
     let p : (r < n) × (c < n) × (j ≡ r * n + c) = grind (arith, nat_tests) in
     let q = at_place n r c j p in
     (ap pos q.0, ap pos q.1, q.2)
-on_place n (pos r) (negsuc c) j h = absurd (none_some h)
-on_place n (negsuc r) (pos c) j h = absurd (none_some h)
-on_place n (negsuc r) (negsuc c) j h = absurd (none_some h)
+on_place n (pos r) (negsuc c) j h = absurd (none-some _ h)
+on_place n (negsuc r) (pos c) j h = absurd (none-some _ h)
+on_place n (negsuc r) (negsuc c) j h = absurd (none-some _ h)
 
 -- Each cell of the board stands in the row and the column that its quotient and rest name.
 in_place : (n j : ℕ) → j < n * n → cell_of n (pos (j / n)) (pos (j % n)) ≡ Some j
@@ -52,7 +49,7 @@ Leads k a b c d = (down right : ℤ) × ((step_to k ≡ Some (down, right)) × (
 -- Where a step leads onto the board there is a step, and it leads to the cell's row and column.
 toward_parts : (n r c : ℕ) (o : Option (ℤ × ℤ)) (j : ℕ) → toward n r c o ≡ Some j → (j < n * n)
     × ((down right : ℤ) × ((o ≡ Some (down, right)) × (pos r +ℤ down ≡ pos (j / n)) × (pos c +ℤ right ≡ pos (j % n))))
-toward_parts n r c None j h = absurd (none_some h)
+toward_parts n r c None j h = absurd (none-some _ h)
 toward_parts n r c (Some (down, right)) j h =
     let q = on_place n (pos r +ℤ down) (pos c +ℤ right) j h in
     (q.2, (down, right, (refl, q.0, q.1)))

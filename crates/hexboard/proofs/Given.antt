@@ -1,5 +1,5 @@
 -- The cells there are among those that a function may give for some numbers, one after the other: what a walk over them knows.
-use Rattle.std.proofs.Common.{rules, ◌≡◌, ℕ, zero, suc, ◌+◌, ◌-◌, ◌<◌, ◌≤◌, List, [], ◌∷◌, true, Some, None, Option, MatchOption, IfSome, sym, ap, ◌∙◌, refl, subst, ⊎_elim, length, get_or, drop, arith}
+use Rattle.std.proofs.Common.{rules, ◌≡◌, ℕ, zero, suc, ◌+◌, ◌-◌, ◌<◌, ◌≤◌, List, [], ◌∷◌, true, Some, None, Option, MatchOption, IfSome, sym, ap, ◌∙◌, refl, subst, ⊎_elim, add-one, arith}
 use Rattle.std.specs.Bool.{IsTrue}
 use Rattle.std.specs.Option.{option_map}
 use Rattle.std.specs.List.{cons_option, FoldsTo, Contains}
@@ -7,11 +7,12 @@ use Rattle.std.specs.Iterator.{FindsMapped, Yields, YieldsThen, YieldsFirst, Mak
 use Rattle.std.specs.Iterator.Runs.{Run, SomeRun, AllItemsGive}
 use Rattle.std.specs.Fn.{Called}
 use Rattle.std.proofs.lemmas.Bool.{cases_eq}
+use Rattle.std.proofs.lemmas.Option.{none-some, same_Some}
 use Rattle.std.proofs.iter.Yields.{nat_range_steps}
 use Rattle.std.proofs.iter.runs.Sources.{range_runs}
 use Rattle.std.specs.declared.ops.Range.{Range}
 use denote.Param.Members.{Mut}
-use Rattle.hexboard.specs.Geometry.{given}
+use Rattle.hexboard.specs.Geometry.{given, over}
 
 -- Where there is none for any of the numbers, the list is empty.
 pub given_none : (next : ℕ → Option ℕ) (k m : ℕ) → ((i : ℕ) → k ≤ i → i < k + m → next i ≡ None) → given next k m ≡ []
@@ -24,12 +25,6 @@ pub given_more : (next : ℕ → Option ℕ) (k m : ℕ) → 0 < m → given nex
 unfolding given
 given_more next k zero h = absurd (omega arith)
 given_more next k (suc m) h = let less : suc m - 1 ≡ m = omega arith in let more : k + 1 ≡ suc k = omega arith in rw (less, more) refl
-
-none_some : {j : ℕ} → None ≡ Some j → ⊥
-none_some {j} h = let z : ◌≡◌ {A = ℕ} 0 1 = cc in omega arith
-
-some_same : {i j : ℕ} → Some i ≡ Some j → i ≡ j
-some_same h = cc
 
 -- A cell of the list is there for one of the numbers,
 pub given_only : (next : ℕ → Option ℕ) (m k j : ℕ) → Contains (given next k m) j → (d : ℕ) × (k ≤ d) × (d < k + m) × (next d ≡ Some j)
@@ -94,8 +89,8 @@ module _ (next : ℕ → Option ℕ) {F : Type 0} {g : Mut F (ℕ × Unit {0}) (
       item (p.at k) (up.3 k inside ∙ ap Some at) (all (λ a r q c. (gives a.0 r q c).0) k)
     where
       item : (o : Option ℕ) → option_map (λ y. y) o ≡ Some i → IfSome o (λ x. Called g f (x, tt) None f) → next i ≡ None
-      item None h c = absurd (none_some h)
-      item (Some x) h c = ap next (sym (some_same h)) ∙ sym (gives x None f c).1
+      item None h c = absurd (none-some _ h)
+      item (Some x) h c = ap next (sym (same_Some _ _ h)) ∙ sym (gives x None f c).1
 
   -- a step leaves no number before those of the range
   further : (o : Option ℕ) (s t u : Range ℕ) → (t.end ≡ s.end) × (s.start ≤ t.start) → nat_range_steps t o u → (u.end ≡ s.end) × (s.start ≤ u.start)
@@ -113,7 +108,7 @@ module _ (next : ℕ → Option ℕ) {F : Type 0} {g : Mut F (ℕ × Unit {0}) (
         given_none next s.start (s.end - s.start) (λ i low high. none i low (omega arith)),
         given_none next u.start (u.end - u.start) (λ i low high. none i (omega (arith, left)) (omega (arith, left))),
       )
-  found Q s u (Some y) (xs, None, h, (t, steps, last), calls, end) runs = absurd (none_some (sym end))
+  found Q s u (Some y) (xs, None, h, (t, steps, last), calls, end) runs = absurd (none-some _ (sym end))
   found Q s u (Some y) (xs, Some x, h, (t, steps, last), calls, (h', call)) runs =
       let past = passed xs s t f h refl steps calls in
       let here = gives x (Some y) h' (subst (λ p. Called g p (x, tt) (Some y) h') past.0 call) in
@@ -132,50 +127,56 @@ pub goes_first : (can : List ℕ → Type 0) (s t : List ℕ) (r : Option ℕ) �
 goes_first can s t None may h = rw (h.0, h.1) (search rules)
 goes_first can s t (Some x) may h = rw h (search (rules, may))
 
--- A walk over the cells for m numbers has `rest` left: it has passed the numbers before k, and P holds there.
+-- A walk over the cells for m numbers comes to number k, and has `rest` left.
+abbrev pub At : (ℕ → Option ℕ) → ℕ → List ℕ → ℕ → Type 0
+At next m rest k = (n : ℕ) × (k + n ≡ m) × (rest ≡ given next k n)
+
+-- It has come to a number where P holds.
 abbrev pub Upto : (ℕ → Option ℕ) → ℕ → List ℕ → (ℕ → Type 0) → Type 0
-Upto next m rest P = (k : ℕ) × (n : ℕ) × (k + n ≡ m) × (rest ≡ given next k n) × P k
+Upto next m rest P = (k : ℕ) × At next m rest k × P k
 
 -- It begins with all of them.
 pub upto_start : (next : ℕ → Option ℕ) (m : ℕ) {rest : List ℕ} (P : ℕ → Type 0) → rest ≡ given next 0 m → P 0 → Upto next m rest P
-upto_start next m P h p = (0, m, omega arith, h, p)
+upto_start next m P h p = (0, (m, omega arith, h), p)
 
-module _ {next : ℕ → Option ℕ} {m : ℕ} (P : ℕ → Type 0) (pass : (k : ℕ) → next k ≡ None → P k → P (k + 1)) where
-  -- Where P passes numbers for which there is no cell, it holds at the number of the next cell, and the walk goes on behind it, with what holds then.
+-- Where P passes numbers for which there is no cell, it holds at the number of the next cell, behind which the others are left; or,
+-- where none is left, behind all numbers.
+abbrev pub Ahead : (ℕ → Option ℕ) → ℕ → (ℕ → Type 0) → List ℕ → Type 0
+Ahead next m P [] = P m
+Ahead next m P (x ∷ others) = (k : ℕ) × (next k ≡ Some x) × P k × At next m others (k + 1)
+
+module _ {next : ℕ → Option ℕ} {m : ℕ} {P : ℕ → Type 0} (pass : (k : ℕ) → next k ≡ None → P k → P (k + 1)) where
+  ahead : (n k : ℕ) → k + n ≡ m → P k → Ahead next m P (given next k n)
+  unfolding given
+  ahead zero k e p = let last : k ≡ m = omega arith in subst P last p
+  ahead (suc n) k e p = at (next k) refl (λ none. ahead n (suc k) (omega arith) (subst P (add-one k) (pass k none p)))
+    where
+      at : (o : Option ℕ) → next k ≡ o → (next k ≡ None → Ahead next m P (given next (suc k) n)) → Ahead next m P (cons_option o (given next (suc k) n))
+      at None is on = on is
+      at (Some x) is on = (k, is, p, (n, omega arith, ap (λ i. given next i n) (sym (add-one k))))
+
   pub upto_next : {rest others : List ℕ} {x : ℕ} → rest ≡ x ∷ others → Upto next m rest P
-      → (k : ℕ) × (next k ≡ Some x) × P k × ((Q : ℕ → Type 0) → Q (k + 1) → Upto next m others Q)
-  unfolding given
-  upto_next {rest} {others} {x} h (k, n, e, left, p) = from n k e (sym left ∙ h) p
-    where
-      Found : Type 1
-      Found = (k : ℕ) × (next k ≡ Some x) × P k × ((Q : ℕ → Type 0) → Q (k + 1) → Upto next m others Q)
+      → (k : ℕ) × (next k ≡ Some x) × P k × At next m others (k + 1)
+  upto_next h (k, (n, e, left), p) = subst (Ahead next m P) (sym left ∙ h) (ahead n k e p)
 
-      From : ℕ → Type 1
-      From n = (k : ℕ) → k + n ≡ m → given next k n ≡ x ∷ others → P k → Found
-
-      at : (n k : ℕ) → From n → k + suc n ≡ m → (o : Option ℕ) → next k ≡ o → cons_option o (given next (k + 1) n) ≡ x ∷ others → P k → Found
-      at n k on e None is l p = on (k + 1) (omega arith) l (pass k is p)
-      at n k on e (Some y) is l p =
-          let head : y ≡ x = ap (λ l. get_or l 0 0) l in
-          let tail : given next (k + 1) n ≡ others = ap (drop 1) l in
-          (k, is ∙ ap Some head, p, λ Q q. (k + 1, n, omega arith, sym tail, q))
-
-      from : (n : ℕ) → From n
-      from zero k e l p = absurd (omega (arith, ap length l))
-      from (suc n) k e l p = at n k (from n) e (next k) refl (let more : k + 1 ≡ suc k = omega arith in rw more l) p
-
-  -- At the end it holds behind all numbers.
   pub upto_end : {rest : List ℕ} → rest ≡ [] → Upto next m rest P → P m
-  unfolding given
-  upto_end {rest} h (k, n, e, left, p) = from n k e (sym left ∙ h) p
-    where
-      From : ℕ → Type 0
-      From n = (k : ℕ) → k + n ≡ m → given next k n ≡ [] → P k → P m
+  upto_end h (k, (n, e, left), p) = subst (Ahead next m P) (sym left ∙ h) (ahead n k e p)
 
-      at : (n k : ℕ) → From n → k + suc n ≡ m → (o : Option ℕ) → next k ≡ o → cons_option o (given next (k + 1) n) ≡ [] → P k → P m
-      at n k on e None is l p = on (k + 1) (omega arith) l (pass k is p)
-      at n k on e (Some y) is l p = absurd (omega (arith, ap length l))
+-- What is known after looking at some: nothing new before the first, or where the board ends,
+pub over_none : {S : Type 0} (look : Option ℕ → S → S) (next : ℕ → Option ℕ) (s : S) → s ≡ over look next 0 s
+unfolding over
+over_none look next s = refl
 
-      from : (n : ℕ) → From n
-      from zero k e l p = subst P (omega arith) p
-      from (suc n) k e l p = at n k (from n) e (next k) refl (let more : k + 1 ≡ suc k = omega arith in rw more l) p
+over_more : {S : Type 0} (look : Option ℕ → S → S) (next : ℕ → Option ℕ) (m : ℕ) (s now new : S) → now ≡ over look next m s →
+    new ≡ look (next m) now → new ≡ over look next (m + 1) s
+unfolding over
+over_more look next m s now new e t = rw add-one (t ∙ ap (look (next m)) e)
+
+pub over_end : {S : Type 0} (look : Option ℕ → S → S) → ((s : S) → s ≡ look None s) → (next : ℕ → Option ℕ) (s now : S) (m : ℕ) → next m ≡ None →
+    now ≡ over look next m s → now ≡ over look next (m + 1) s
+over_end look idle next s now m none so_far = over_more look next m s now now so_far (idle now ∙ ap (λ o. look o now) (sym none))
+
+-- else what the neighbour tells.
+pub over_met : {S : Type 0} (look : Option ℕ → S → S) (next : ℕ → Option ℕ) (m : ℕ) (s now new : S) (p : ℕ) → next m ≡ Some p →
+    now ≡ over look next m s → new ≡ look (Some p) now → new ≡ over look next (m + 1) s
+over_met look next m s now new p is so_far t = over_more look next m s now new so_far (t ∙ ap (λ o. look o now) (sym is))

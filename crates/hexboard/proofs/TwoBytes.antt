@@ -59,9 +59,12 @@ words_take (suc k) (low ∷ []) = rw (low_on k) refl
 words_take (suc k) (low ∷ (high ∷ bs)) = rw (low_on k) (ap (λ ws. (low + high * 256) ∷ ws) (words_take k bs))
 
 -- Bytes that are all 0 are numbers that are all 0.
-pub words_zeros : (n : ℕ) → words (replicate (n * 2) 0) ≡ replicate n 0
-words_zeros zero = refl
-words_zeros (suc n) = rw (low_on n) (ap (λ ws. 0 ∷ ws) (words_zeros n))
+pub words_cleared : (m : ℕ) → words (replicate m 0) ≡ replicate (m / 2) 0
+words_cleared zero = refl
+words_cleared (suc zero) = refl
+words_cleared (suc (suc m)) =
+    let two : suc (suc m) / 2 ≡ suc (m / 2) = omega arith in
+    rw two (ap (λ r. 0 ∷ r) (words_cleared m))
 
 -- Each pair of bytes can be told from its number, so all bytes can.
 pub same_bytes : (k : ℕ) (xs ys : List ℕ) → length xs ≡ k * 2 → length ys ≡ k * 2 → ((i : ℕ) → get_or xs i 0 < 256) → ((i : ℕ) → get_or ys i 0 < 256) → words xs ≡ words ys → xs ≡ ys

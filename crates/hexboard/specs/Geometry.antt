@@ -42,6 +42,11 @@ neighbours_from n i k = given (neighbour_of n i) k (6 - k)
 abbrev pub neighbours : ℕ → ℕ → List ℕ
 neighbours n i = neighbours_from n i 0
 
+-- the first m of what may lie next to a cell are looked at, one by one, and what is known so far changes with each
+unfoldable pub over : {S : Type 0} → (Option ℕ → S → S) → (ℕ → Option ℕ) → ℕ → S → S
+over look next zero so_far = so_far
+over look next (suc m) so_far = look (next m) (over look next m so_far)
+
 -- cell j is on the board next to cell i
 pub record Beside (n i j : ℕ) : Type 0 where
   pub from : i < n * n

@@ -79,7 +79,7 @@ pub fn first_pair(size: Size, cells: &[u8]) -> Option<(u16, u16)>
     ensures { MatchOption result (NoPair (laid size.n cells.now)) (λ p. FirstPair (laid size.n cells.now) p.0 p.1) }
 {
     let mut found = None;
-    // Both loops are left from inside, by the label.
+    // Both loops are left from inside, by the label: no plainer by `find_map` and `find`, whose closures would have to tell both cells.
     'cells: for i in 0..size.cells() {
         let Some(side) = stone(cells, i) else {
             continue 'cells;

@@ -1,12 +1,12 @@
 -- A move is taken back: what the game and the memory are afterwards, and that this is right. And a new game.
-use Rattle.std.proofs.Common.{◌≡◌, ℕ, ◌+◌, ◌-◌, ◌*◌, ◌<◌, true, List, [], ◌∷◌, ◌++◌, length, get_or, take, set, replicate, is_some, Some, None, Option, sym, refl, ap, ◌∙◌, subst, ⊎_elim, arith}
+use Rattle.std.proofs.Common.{◌≡◌, ℕ, ◌+◌, ◌-◌, ◌*◌, ◌/◌, ◌<◌, true, List, [], ◌∷◌, ◌++◌, length, get_or, take, set, replicate, is_some, Some, None, Option, sym, refl, ap, ◌∙◌, subst, ⊎_elim, arith}
 use Rattle.std.proofs.lemmas.List.{length_push, length-replicate, length-set, length-take-le, take_more, take-set}
 use Rattle.std.proofs.lemmas.Bool.{cases_eq, lt-ltb}
 use Rattle.hexboard.specs.Board.{pick, all_cells, Connects}
 use Rattle.hexboard.specs.Games as games
 use Rattle.hexboard.specs.Words.{words, word_of}
 use Rattle.hexboard.proofs.Boards.{all_cells_replicate}
-use Rattle.hexboard.proofs.TwoBytes.{words_length, words_zeros}
+use Rattle.hexboard.proofs.TwoBytes.{words_length, words_cleared}
 use Rattle.groups.specs.Forest.{held}
 use Rattle.groups.specs.Moves.{start, played, is_fair, board_of, turn_of, forest_of, Legal}
 use Rattle.groups.specs.Meaning.{Open}
@@ -115,11 +115,12 @@ pub new_held : (n : ℕ) (g : Game) (m : Memory) → g.size.n ≡ n → g.count 
 unfolding played is_fair
 new_held n g m size none nobody stones log groups parents =
     let moves : moves_in g m ≡ [] = ap (λ k. take k (words m.log)) none in
-    let all : n * n - 0 ≡ n * n = omega arith in (
+    let all : n * n - 0 ≡ n * n = omega arith in
+    let half : n * n * 2 / 2 ≡ n * n = omega arith in (
       holds_by g m n [] size moves (sym none) (record { legal = refl; before = λ k l. absurd (omega arith) })
           (record {
             stones_are = stones;
-            log_is = ap words log ∙ (words_zeros (n * n) ∙ (all_cells_replicate (n * n) ∙ ap all_cells (sym all)));
+            log_is = ap words log ∙ (words_cleared (n * n * 2) ∙ ap (λ k. replicate k 0) half ∙ (all_cells_replicate (n * n) ∙ ap all_cells (sym all)));
             log_long = ap length log ∙ length-replicate (n * n * 2) 0;
             groups_are = groups;
             parents_long = parents;

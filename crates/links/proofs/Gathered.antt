@@ -4,24 +4,15 @@ use lib.Bits.{bit_or}
 use Rattle.std.proofs.lemmas.List.{length-set, length-replicate, get_or-set_same, get_or-set_other, set_past}
 use Rattle.std.proofs.lemmas.Bool.{cases_eq, cases_lt, eq-eqb, ne_eqb}
 use Rattle.hexboard.specs.Board.{Board, at, other, next_to}
-use Rattle.hexboard.specs.Geometry.{neighbour_of, touch}
+use Rattle.hexboard.specs.Geometry.{neighbour_of, touch, over}
 use Rattle.hexboard.specs.Rows.{Stone}
 use Rattle.hexboard.proofs.Adjacent.{neighbour_next, neighbour_all}
+use Rattle.hexboard.proofs.Given.{over_end, over_met}
 use Rattle.groups.specs.Forest.{root}
 use Rattle.groups.proofs.Placing.{stone_here}
 use Rattle.ranking.specs.Sets.{bit}
 use Rattle.ranking.proofs.Bits.{bit_none, bit_one, in_or, or_left, or_right}
-use Rattle.links.specs.Gathering.{over, enter, entered_at, entered_all, gathered, joined_at, by_root}
-
--- Nothing has been looked at, or one more may be.
-pub over_none : {S : Type 0} (look : Option ℕ → S → S) (next : ℕ → Option ℕ) (s : S) → s ≡ over look next 0 s
-unfolding over
-over_none look next s = refl
-
-over_more : {S : Type 0} (look : Option ℕ → S → S) (next : ℕ → Option ℕ) (m : ℕ) (s now new : S) → now ≡ over look next m s →
-    new ≡ look (next m) now → new ≡ over look next (m + 1) s
-unfolding over
-over_more look next m s now new e t = rw add-one (t ∙ ap (look (next m)) e)
+use Rattle.links.specs.Gathering.{enter, entered_at, entered_all, gathered, joined_at, by_root}
 
 pub gathered_none : (b : Board) (w : ℕ) (ps es : List ℕ) → replicate 361 0 ≡ gathered b w ps es 0
 unfolding gathered
@@ -33,26 +24,16 @@ pub gathered_more : (b : Board) (w : ℕ) (ps es : List ℕ) (m cell : ℕ) (now
 unfolding gathered
 gathered_more b w ps es m cell now new e is t = rw add-one (t ∙ ap₂ (entered_all b w ps m) is e)
 
--- Where the board ends there is nothing to look at,
-pub over_end : {S : Type 0} (look : Option ℕ → S → S) → ((s : S) → s ≡ look None s) → (next : ℕ → Option ℕ) (m : ℕ) (s now : S) → next m ≡ None →
-    now ≡ over look next m s → now ≡ over look next (m + 1) s
-over_end look idle next m s now none so_far = over_more look next m s now now so_far (idle now ∙ ap (λ o. look o now) (sym none))
-
--- else at the neighbour.
-pub over_met : {S : Type 0} (look : Option ℕ → S → S) (next : ℕ → Option ℕ) (m : ℕ) (s now new : S) (p : ℕ) → next m ≡ Some p →
-    now ≡ over look next m s → new ≡ look (Some p) now → new ≡ over look next (m + 1) s
-over_met look next m s now new p is so_far t = over_more look next m s now new so_far (t ∙ ap (λ o. look o now) (sym is))
-
 -- The first m neighbours of cell i have been looked at: what is near and which borders are touched is joined so far.
 pub record Looked (b : Board) (w : ℕ) (ps sets bs : List ℕ) (i near borders m : ℕ) : Type 0 where
   pub joined : near ≡ over (joined_at b w ps (by_root sets)) (neighbour_of b.wide i) m 0
   pub touched : borders ≡ over (joined_at b w ps (by_root bs)) (neighbour_of b.wide i) m (touch b.wide w i)
 
-module _ (b : Board) (w : ℕ) (ps sets bs : List ℕ) (i near borders m : ℕ) where
-  pub looked_end : neighbour_of b.wide i m ≡ None → Looked b w ps sets bs i near borders m → Looked b w ps sets bs i near borders (m + 1)
-  looked_end none l = record { joined = over_end _ (λ x. refl) _ m _ _ none l.joined; touched = over_end _ (λ x. refl) _ m _ _ none l.touched }
+module _ {b : Board} {w : ℕ} {ps sets bs : List ℕ} {i near borders : ℕ} where
+  pub looked_end : (m : ℕ) → neighbour_of b.wide i m ≡ None → Looked b w ps sets bs i near borders m → Looked b w ps sets bs i near borders (m + 1)
+  looked_end m none l = record { joined = over_end _ (λ x. refl) _ _ _ m none l.joined; touched = over_end _ (λ x. refl) _ _ _ m none l.touched }
 
-  module _ (p : ℕ) (is : neighbour_of b.wide i m ≡ Some p) (l : Looked b w ps sets bs i near borders m) where
+  module _ {m p : ℕ} (is : neighbour_of b.wide i m ≡ Some p) (l : Looked b w ps sets bs i near borders m) where
     -- A stone of the other side brings nothing,
     pub looked_theirs : at b p ≡ other w → Looked b w ps sets bs i near borders (m + 1)
     looked_theirs theirs =

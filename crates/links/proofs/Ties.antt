@@ -4,7 +4,7 @@ use native.Mathlib.Nat.{zero-div}
 use lib.Bits.{bit_or}
 use Rattle.std.proofs.lemmas.Bool.{cases_eq, eq-eqb, ne_eqb}
 use Rattle.hexboard.specs.Board.{Board, at, other, next_to}
-use Rattle.hexboard.specs.Geometry.{neighbour_of, touch}
+use Rattle.hexboard.specs.Geometry.{neighbour_of, touch, over}
 use Rattle.hexboard.specs.Promise.{Good}
 use Rattle.hexboard.specs.Rows.{Stone}
 use Rattle.hexboard.proofs.Boards.{good_at}
@@ -19,7 +19,7 @@ use Rattle.groups.proofs.Spanning.{same_root, one_root}
 use Rattle.ranking.specs.Sets.{bit}
 use Rattle.ranking.proofs.Bits.{bit_none, in_or, or_left, or_right}
 use Rattle.endgame.specs.Ends.{Numbered}
-use Rattle.links.specs.Gathering.{over, gathered, joined_at, by_root, near_at, borders_at}
+use Rattle.links.specs.Gathering.{gathered, joined_at, by_root, near_at, borders_at}
 use Rattle.endgame.specs.Linked.{Tied, direct, through, Bound, own, across}
 use Rattle.links.proofs.Gathered.{over_only, over_old, over_new, Meets, gathered_only, gathered_all}
 

@@ -1,13 +1,8 @@
 -- What a side's stones bring together, cell by cell and neighbour by neighbour, as code can follow it. Definitions only.
 use Rattle.std.specs.Prelude.{ℕ, zero, suc, ◌^◌, List, replicate, Some, None, Option, ◌==◌, bit_or, slice_index, slice_set}
 use Rattle.hexboard.specs.Board.{pick, Board, at, other}
-use Rattle.hexboard.specs.Geometry.{neighbour_of, touch}
+use Rattle.hexboard.specs.Geometry.{neighbour_of, touch, over}
 use Rattle.groups.specs.Forest.{root}
-
--- the first m of what may lie next to a cell are looked at, one by one, and what is known so far changes with each
-unfoldable pub over : {S : Type 0} → (Option ℕ → S → S) → (ℕ → Option ℕ) → ℕ → S → S
-over look next zero so_far = so_far
-over look next (suc m) so_far = look (next m) (over look next m so_far)
 
 -- number k comes into the set at place r
 abbrev pub enter : ℕ → ℕ → List ℕ → List ℕ

@@ -2,6 +2,7 @@
 use Rattle.std.proofs.Common.{◌≡◌, ℕ, ◌+◌, ◌<◌, ◌≤◌, true, false, cond, ◌&&◌, eqb, List, get_or, set, Some, None, Option, sym, refl, ap, ◌∙◌, subst, inr, ⊎_elim, arith, below_more}
 use Rattle.std.proofs.lemmas.List.{get_or-set_other}
 use Rattle.std.proofs.lemmas.Bool.{eq-eqb, ne_eqb, eqb-true, eqb-false, cond-true, cond-false, and_parts, and_cases, both_ways}
+use Rattle.std.proofs.lemmas.Option.{none-some, same_Some}
 use Rattle.paths.specs.Ways.{Ground}
 use Rattle.paths.specs.Search.{Reached, Tree, Spread, Front, Ahead, Met}
 use Rattle.paths.proofs.Trees.{Comes, stays, reaches, each_reached, each_listed, tree_more}
@@ -40,20 +41,16 @@ module _ {g : Ground} {queue from : List ℕ} {h t y : ℕ} {next : ℕ → Opti
     looked = below_more (λ m. (x : ℕ) → next m ≡ Some x → g.own x ≡ true → Reached from x × (l.depth x ≤ l.depth y + 1)) k l.looked more;
   }
 
-  -- A neighbour that is not there,
-  pub look_past_end : next k ≡ None → Looking g queue from h t y next (k + 1)
-  look_past_end none = passed (λ x e o. absurd (let z : None ≡ Some x = sym none ∙ e in grind arith))
-
-  -- one that is not one's own,
+  -- One that is not one's own needs no more,
   look_past_other : (x : ℕ) → next k ≡ Some x → g.own x ≡ false → Looking g queue from h t y next (k + 1)
   look_past_other x e other =
-      passed (λ z f o. absurd (let s : x ≡ z = let s : Some x ≡ Some z = sym e ∙ f in cc in both_ways (g.own x) other (subst (λ z. g.own z ≡ true) (sym s) o)))
+      passed (λ z f o. absurd (let s : x ≡ z = same_Some _ _ (sym e ∙ f) in both_ways (g.own x) other (subst (λ z. g.own z ≡ true) (sym s) o)))
 
-  -- and one that is reached already need no more.
+  -- nor does one that is reached already.
   look_past_reached : (x : ℕ) → next k ≡ Some x → Reached from x → Looking g queue from h t y next (k + 1)
   look_past_reached x e r =
       passed
-      (λ z f o. let s : x ≡ z = let s : Some x ≡ Some z = sym e ∙ f in cc in
+      (λ z f o. let s : x ≡ z = same_Some _ _ (sym e ∙ f) in
       let (p, b, q) = l.front.tree.placed x r in
       let d = l.front.level l.inside p b in
       (subst (Reached from) s r, omega (arith, ap l.depth s, ap l.depth q, ap l.depth l.here)))
@@ -82,6 +79,11 @@ module _ {g : Ground} {queue from : List ℕ} {h t y : ℕ} {next : ℕ → Opti
           (subst (Spread g from l.depth) (sym l.here) (λ x near own. let (m, b, e) = all x near own in l.looked m b x e own));
     },
   )
+
+-- Where the board ends there is no neighbour to look at.
+pub look_end : {g : Ground} {queue from : List ℕ} {h t y : ℕ} {next : ℕ → Option ℕ} (k : ℕ) → next k ≡ None → Looking g queue from h t y next k
+    → Looking g queue from h t y next (k + 1)
+look_end k none l = passed l (λ x e o. absurd (none-some _ (sym none ∙ e)))
 
 -- Place x, near y, is one's own and not reached yet.
 module _ {g : Ground} {queue from : List ℕ} {h t y : ℕ} {next : ℕ → Option ℕ} {k x : ℕ} (l : Looking g queue from h t y next k)
@@ -177,7 +179,7 @@ module _ {g : Ground} {queue from : List ℕ} {h t y : ℕ} {next : ℕ → Opti
         below_more (λ m. (z : ℕ) → next m ≡ Some z → g.own z ≡ true → Reached (set from x (y + 1)) z × (depth' z ≤ depth' y + 1)) k
         (λ m b z f o. still_near y z y_reached (l.looked m b z f o))
         (λ z f o.
-        let s : x ≡ z = let s : Some x ≡ Some z = sym e ∙ f in cc in
+        let s : x ≡ z = same_Some _ _ (sym e ∙ f) in
         subst (λ z. Reached (set from x (y + 1)) z × (depth' z ≤ depth' y + 1)) s
         (arrived, let d = same_depth y y_reached in omega (arith, new_depth)));
   }

@@ -6,7 +6,8 @@ ghost use Rattle.paths.specs.Search.{Reached, parent};
 use hexboard::{set_word, word};
 
 // The queue has the cells reached, `count` of them, in their order. Lent bytes hold no `Option`: for each cell `from` has one more than the
-// cell from which it was reached, and 0 if it was not.
+// cell from which it was reached, and 0 if it was not. That there is room for each cell of the board is asked by the search, and is no
+// ghost field: the ground would have to stand here as well, lent, and each function to promise in place of the room that it stays.
 #[derive(Drop)]
 pub struct Frontier<'a> {
     pub queue: &'a mut [u8],

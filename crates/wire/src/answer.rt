@@ -45,8 +45,9 @@ pub fn write_answer(answer: Answer<&[u8]>, out: &mut [u8]) -> Result<usize, Unwr
 {
     match answer {
         Answer::Refused(why) => {
-            let [a, b] = why.number().to_le_bytes();
-            let [c, d] = why.place().to_le_bytes();
+            let (number, place) = why.into();
+            let [a, b] = number.to_le_bytes();
+            let [c, d] = place.to_le_bytes();
             put(&[0, a, b, c, d], out).ok_or(Unwritten::Short)
         }
         Answer::Number(number) => {
@@ -75,6 +76,7 @@ fn write_way(side: Side, cells: &[u8], out: &mut [u8]) -> Result<usize, Unwritte
 {
     let count = count_cells(cells).ok_or(Unwritten::NotCells)?;
     let size = 5 + cells.len();
+    // The room is asked for before anything is written, and not by `get_mut`, as in `put`.
     if out.len() < size {
         return Err(Unwritten::Short);
     }
@@ -108,9 +110,7 @@ pub fn count_cells(cells: &[u8]) -> Option<u16>
 pub fn cell_at(cells: &[u8], k: usize) -> Option<u16>
     ensures { MatchOption result (length (words cells.now) ≤ k) (λ cell. (k < length (words cells.now)) × (cell ≡ slice_index (words cells.now) k)) }
 {
-    let (pairs, _) = cells.as_chunks::<2>();
-    let pair = pairs.get(k)?;
-    Some(u16::from_le_bytes(*pair))
+    Words::of(cells).nth(k)
 }
 
 // The answer that the bytes are, where they are one. A way is handed on as the part of the bytes that its cells are.

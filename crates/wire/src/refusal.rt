@@ -24,30 +24,19 @@ pub enum Refusal {
     NoMove,
 }
 
-impl Refusal {
-    // The number of the reason. Two refusals can have one number, so this is no conversion of a refusal.
-    pub fn number(self) -> u16
-        ensures { result ≡ (reason self).number }
-    {
-        match self {
-            Refusal::Unreadable(_) => 1,
-            Refusal::NoCell => 2,
-            Refusal::BadSize | Refusal::SmallMemory => 3,
-            Refusal::Over => 4,
-            Refusal::Taken => 5,
-            Refusal::NoMove => 6,
-        }
-    }
+// The number of the reason, and the place beside it: of the first byte that does not fit, or which of two reasons with one number.
+impl From<Refusal> for (u16, u16) {
+    ghost from_gives = { λ why pair. (pair.0 ≡ (reason why).number) × (pair.1 ≡ (reason why).place) };
 
-    // The place, beside the number: of the first byte that does not fit, or which of two reasons with one number.
-    pub fn place(self) -> u16
-        ensures { result ≡ (reason self).place }
-    {
-        match self {
-            Refusal::Unreadable(byte) => byte,
-            Refusal::SmallMemory => 1,
-            Refusal::NoCell | Refusal::BadSize | Refusal::Over | Refusal::Taken | Refusal::NoMove =>
-                0,
+    fn from(why: Refusal) -> (u16, u16) {
+        match why {
+            Refusal::Unreadable(byte) => (1, byte),
+            Refusal::NoCell => (2, 0),
+            Refusal::BadSize => (3, 0),
+            Refusal::SmallMemory => (3, 1),
+            Refusal::Over => (4, 0),
+            Refusal::Taken => (5, 0),
+            Refusal::NoMove => (6, 0),
         }
     }
 }
@@ -98,7 +87,8 @@ impl fmt::Display for Refusal {
     ghost output = { λ why. Some (refused_line (reason why).number (reason why).place) };
 
     fn fmt<W: fmt::Write>(&self, f: &mut fmt::Formatter<W>) -> fmt::Result {
-        write!(f, "refused {} at {}", self.number(), self.place())
+        let (number, place) = (*self).into();
+        write!(f, "refused {number} at {place}")
     }
 }
 

@@ -3,9 +3,8 @@ use Rattle.std.proofs.lemmas.List.{length-replicate}
 use Rattle.hexboard.specs.Geometry.{laid}
 use Rattle.hexboard.specs.Sides.{number}
 use Rattle.hexboard.specs.Words.{words}
-use Rattle.hexboard.proofs.TwoBytes.{words_length}
+use Rattle.hexboard.proofs.TwoBytes.{words_length, words_cleared}
 use Rattle.paths.specs.Grounds.{ground_of}
-use Rattle.paths.proofs.TwoBytes.{words_cleared}
 use Rattle.paths.proofs.Grounds.{own_inside}
 use Rattle.paths.proofs.Sources.{sow_none, sow_past, sow_met, sow_more}
 use Rattle.paths.proofs.search.sow.Goals as goal

@@ -1,7 +1,7 @@
 use Rattle.std.proofs.Common.{◌≡◌}
-use Rattle.hexboard.specs.Geometry.{neighbour_of}
+use Rattle.hexboard.specs.Geometry.{neighbour_of, over}
 use Rattle.hexboard.specs.Sides.{number}
-use Rattle.links.specs.Gathering.{over, entered_at}
+use Rattle.links.specs.Gathering.{entered_at}
 use Rattle.links.specs.Grouped.{board, parents}
 use Rattle.hexboard.proofs.Given.{Upto}
 use Rattle.links.proofs.grouped.Grouped.enter_all.Given as goal
