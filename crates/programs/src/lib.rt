@@ -117,10 +117,11 @@ fn print_help(rt: &HostRuntime, program: Program) -> anyhow::Result<()> {
     let Limits { largest, ends } = program.limits;
     rt.print(program.help)?;
     rt.print(LINES)?;
-    let ends = ends.unwrap_or(0);
-    println!(rt;
-        "Limits: boards from 1 by 1 to {largest} by {largest}; can force with at most {ends} empty cells."
-    )?;
+    print!(rt; "Limits: boards from 1 by 1 to {largest} by {largest}; ")?;
+    match ends {
+        Some(ends) => println!(rt; "can force with at most {ends} empty cells.")?,
+        None => println!(rt; "no can force.")?,
+    }
     Ok(())
 }
 
