@@ -126,7 +126,7 @@ fn print_help(rt: &HostRuntime, program: Program) -> anyhow::Result<()> {
 }
 
 // Serves standard input, line by line.
-pub fn serve_input<P: Printing>(
+fn serve_input<P: Printing>(
     rt: &HostRuntime,
     limits: Limits,
     printing: &P,
