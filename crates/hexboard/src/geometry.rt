@@ -31,11 +31,13 @@ fn step(k: u8) -> Option<(i16, i16)>
 fn cell_on(size: Size, row: i16, column: i16) -> Option<u16>
     ensures { result ≡ cell_of size.n row column }
 {
-    let n = size.width() as i16;
-    if row < 0 || row >= n || column < 0 || column >= n {
+    let n = size.width();
+    let row = u16::try_from(row).ok()?;
+    let column = u16::try_from(column).ok()?;
+    if row >= n || column >= n {
         return None;
     }
-    Some(row as u16 * size.width() + column as u16)
+    Some(row * n + column)
 }
 
 // The k-th neighbour of a cell. None where the board ends there, for a cell that is not on the board, and from k = 6 on.
@@ -152,10 +154,9 @@ mod tests {
     #[test]
     fn three_by_three(rt: HostRuntime) -> Result<(), Fail> {
         let size = board(3)?;
-        for i in 0..9u16 {
-            for j in 0..9u16 {
-                let near = six(size, i).contains(&Some(j));
-                assert_eq!(rt; near, NEAR[i as usize][j as usize] == 1);
+        for (i, row) in (0u16..).zip(&NEAR) {
+            for (j, near) in (0u16..).zip(row) {
+                assert_eq!(rt; six(size, i).contains(&Some(j)), *near == 1);
             }
         }
         Ok(())

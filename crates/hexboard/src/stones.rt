@@ -101,7 +101,7 @@ mod tests {
 
     #[test]
     fn first_two(rt: HostRuntime) -> Result<(), Fail> {
-        let size = Size::new(3).ok_or_else(|| Fail::new("no board is 3 wide"))?;
+        let size = Size::new(3).unwrap();
         let mut cells = [0; 9];
         place(&mut cells, Side::One, 8)?;
         place(&mut cells, Side::Two, 4)?;

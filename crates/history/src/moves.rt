@@ -24,7 +24,7 @@ pub fn make_move(
     requires { Holds game (lent stones.old log.old parents.old borders.old) }
     ensures { Settled game (lent stones.old log.old parents.old borders.old) (games.moves cell) (λ _. game.count) (lent stones.new log.new parents.new borders.new) result }
 {
-    // A `let .. else`, as every check of opening and of a call is: so all refuse alike, and each hands on its value.
+    // A `let .. else`, as the checks behind it are: so all refuse alike, and this one hands on what stands there.
     let Some(&standing) = stones.get(usize::from(cell)) else {
         return Err(Refusal::NoCell);
     };

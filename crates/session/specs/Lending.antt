@@ -4,10 +4,15 @@ use Rattle.hexboard.specs.Board.{pick}
 use Rattle.hexboard.specs.Games as games
 use Rattle.wire.specs.declared.refusal.Refusal.{Refusal}
 use Rattle.wire.specs.declared.refusal.Refusal.TheVariants.{BadSize, SmallMemory}
-use Rattle.history.specs.Holds.{won_by, Memory, formal, Holds}
+use Rattle.history.specs.Holds.{won_by, Memory, lent, formal, Holds}
 use Rattle.history.specs.declared.game.Game.{Game}
 use Rattle.verdict.specs.Verdicts.{bytes_of_table}
 use Rattle.session.specs.Serving.{Room}
+use Rattle.session.specs.declared.lent.Parts.{Parts}
+
+-- what the parts of the lent memory hold of a game
+abbrev pub memory_in : Parts → Memory
+memory_in p = lent p.stones.now p.log.now p.parents.now p.borders.now
 
 -- The memory that a game on a board n wide asks for: six bytes for each cell, and the table of an end, which serves the search for a
 -- way as scratch, too.

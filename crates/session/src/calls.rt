@@ -23,7 +23,7 @@ impl Desk {
     pub fn open(heap: Global, n: u16) -> Result<Desk, Unopened>
         ensures { Opened n result }
     {
-        // A `let .. else`, as every check of opening and of a call is: so all refuse alike, and each hands on its value.
+        // A `let .. else`: the check hands on the size, or refuses.
         let Some(size) = Size::new(n) else {
             return Err(Unopened::Refused(Refusal::BadSize));
         };

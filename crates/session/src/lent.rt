@@ -1,10 +1,10 @@
 // A game in memory that its caller lends: opening cuts the memory into parts once, and every call works on the parts.
 ghost use Rattle.std.specs.Prelude.{◌≡◌, ℕ, ◌+◌, ◌*◌, ◌<◌, ◌≤◌, length, MatchResult};
 ghost use Rattle.hexboard.specs.Games as games;
-ghost use Rattle.history.specs.Holds.{lent, formal, Holds};
+ghost use Rattle.history.specs.Holds.{formal, Holds};
 ghost use Rattle.session.specs.Serving.{Room};
 ghost use Rattle.session.specs.Calling.{Called};
-ghost use Rattle.session.specs.Lending.{asked, within, New, NotOpened};
+ghost use Rattle.session.specs.Lending.{asked, within, memory_in, New, NotOpened};
 
 use crate::bytes::show;
 use crate::reply::Reply;
@@ -44,9 +44,9 @@ pub fn memory_for(size: Size) -> usize
 // A new game on a board n wide and n tall, n from 1 to 19, in memory that holds anything. The parts hold it, and `Game::new` gives it
 // by value.
 pub fn open(n: u16, memory: &mut [u8]) -> Result<Parts<'_>, Closed<'_>>
-    ensures { MatchResult result (λ p. New n (lent p.stones.now p.log.now p.parents.now p.borders.now) (length p.scratch.now)) (λ e. (e.memory.now ≡ memory.old) × NotOpened n (length memory.old) e.why) }
+    ensures { MatchResult result (λ p. New n (memory_in p) (length p.scratch.now)) (λ e. (e.memory.now ≡ memory.old) × NotOpened n (length memory.old) e.why) }
 {
-    // A `let .. else`, as the check of `Desk::open` is; the refusal hands the memory back.
+    // A `let .. else`, since the check hands on the size. The refusals hand the memory back.
     let Some(size) = Size::new(n) else {
         return Err(Closed {
             why: Refusal::BadSize,
@@ -83,16 +83,18 @@ pub fn call<'a>(
     bytes: &[u8],
     answer: &mut [u8],
 ) -> (Game, Parts<'a>, Option<usize>)
-    requires holds { Holds game (lent parts.stones.now parts.log.now parts.parents.now parts.borders.now) }
+    requires holds { Holds game (memory_in parts) }
     requires room { Room game.size.n (length parts.scratch.now) (2 * (game.size.n * game.size.n)) }
-    ensures called { Called game (lent parts.entry.stones.now parts.entry.log.now parts.entry.parents.now parts.entry.borders.now) parts.entry.scratch.now bytes.now answer.old result.0 (lent result.1.stones.now result.1.log.now result.1.parents.now result.1.borders.now) result.1.scratch.now answer.new result.2 }
-    ensures holds { Holds result.0 (lent result.1.stones.now result.1.log.now result.1.parents.now result.1.borders.now) }
+    ensures called { Called game (memory_in parts.entry) parts.entry.scratch.now bytes.now answer.old result.0 (memory_in result.1) result.1.scratch.now answer.new result.2 }
+    ensures holds { Holds result.0 (memory_in result.1) }
     ensures room { Room result.0.size.n (length result.1.scratch.now) (2 * (result.0.size.n * result.0.size.n)) }
 {
     let cells = usize::from(game.size().cells());
+    // No refusal: there is no room to write one.
     if answer.len() < 2 * cells + 8 {
         return (game, parts, None);
     }
+    // A `match`, and no `let .. else`: the refusal says why.
     let call = match wire::read_call(bytes) {
         Ok(call) => call,
         Err(why) => {

@@ -87,8 +87,7 @@ fn move_refused(heap: Global, desk: &mut Desk, cell: u16, why: Refusal) -> Resul
     check(desk.serve(Call::Move(cell)) == Reply::Refused(why))?;
     check(kept_by(heap, desk)? == before)?;
     check(desk.scratch == scratch)?;
-    check(desk.game.count() == count)?;
-    Ok(())
+    check(desk.game.count() == count)
 }
 
 // On a finished game a cell that is not there comes before the end of the game, and that before a cell that is taken.
@@ -120,8 +119,7 @@ fn play_to_the_end(desk: &mut Desk, cells: &[u16], winner: Side) -> Result<(), F
         check(desk.serve(Call::Who) == Reply::Number(0))?;
         check(desk.serve(Call::Move(*cell)) == Reply::Number(number))?;
     }
-    check(desk.serve(Call::Who) == Reply::Way(winner, 7))?;
-    Ok(())
+    check(desk.serve(Call::Who) == Reply::Way(winner, 7))
 }
 
 fn take_all_back(desk: &mut Desk, moves: u16) -> Result<(), Fail> {
@@ -129,8 +127,7 @@ fn take_all_back(desk: &mut Desk, moves: u16) -> Result<(), Fail> {
         check(desk.serve(Call::Back) == Reply::Number(left))?;
         check(desk.serve(Call::Who) == Reply::Number(0))?;
     }
-    check(desk.serve(Call::Back) == Reply::Refused(Refusal::NoMove))?;
-    Ok(())
+    check(desk.serve(Call::Back) == Reply::Refused(Refusal::NoMove))
 }
 
 // A whole game is taken back move by move, and played otherwise; every byte that is kept is what it was.
@@ -142,8 +139,7 @@ fn a_game_back_to_the_start(rt: HostRuntime) -> Result<(), Fail> {
     play_to_the_end(&mut desk, &LONG, Side::Two)?;
     take_all_back(&mut desk, 14)?;
     assert_eq!(rt; kept_by(heap, &desk)?, before);
-    play_to_the_end(&mut desk, &OTHER, Side::One)?;
-    Ok(())
+    play_to_the_end(&mut desk, &OTHER, Side::One)
 }
 
 // What opening in memory of so many bytes is refused for, with the memory as it was.
@@ -159,7 +155,7 @@ fn closed(n: u16, memory: &mut [u8]) -> Result<Refusal, Fail> {
 
 #[test]
 fn memory_too_small(rt: HostRuntime) -> Result<(), Fail> {
-    let size = Size::new(3).ok_or_else(|| Fail::new("no board is 3 wide"))?;
+    let size = Size::new(3).unwrap();
     assert_eq!(rt; memory_for(size), 1566);
     let mut memory = [7; 1565];
     assert_eq!(rt; closed(0, &mut memory)?, Refusal::BadSize);
@@ -173,7 +169,7 @@ fn memory_too_small(rt: HostRuntime) -> Result<(), Fail> {
 #[test]
 fn one_cell_in_bytes(rt: HostRuntime) -> Result<(), Fail> {
     let heap = rt.alloc();
-    let size = Size::new(1).ok_or_else(|| Fail::new("no board is 1 wide"))?;
+    let size = Size::new(1).unwrap();
     let mut memory = [7; 1518];
     let mut answer = [9; 10];
     let parts = open(1, &mut memory)?;
