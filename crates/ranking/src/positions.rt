@@ -11,6 +11,8 @@ struct Stones {
 }
 
 // Rows 0 to 16 of Pascal's triangle, each with columns 0 to 16.
+// That there are at most 16 cells, and stones on them, is asked by the functions here and is no type: they are added and taken off each
+// other in every step.
 #[derive(Drop)]
 struct Triangle {
     rows: [[u32; 17]; 17],
