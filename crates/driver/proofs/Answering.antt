@@ -1,13 +1,15 @@
 -- What the parts of serving a line say, put together as what a line is answered by.
-use Rattle.std.proofs.Common.{◌≡◌, ℕ, List, ◌++◌, IfOk, Ok, Err, codes, decimal, Result, ⊎_elim, ◌+◌, [], ◌∷◌, take, sym, ap, ◌∙◌}
+use Rattle.std.proofs.Common.{◌≡◌, ℕ, List, ◌++◌, IfOk, Ok, Err, None, refl, codes, decimal, Result, ⊎_elim, ◌+◌, [], ◌∷◌, take, sym, ap, ◌∙◌}
 use Rattle.std.proofs.lemmas.List.{flat_map_more}
 use Rattle.std.specs.List.{flat_map}
 use Rattle.hexboard.specs.Games as games
 use Rattle.wire.specs.declared.call.Call.{Call}
 use Rattle.wire.specs.Answers.{line_of}
 use Rattle.text.specs.Lines.{Asks, Says}
+use Rattle.text.specs.Readings.{Reads}
+use Rattle.text.specs.declared.reading.Line.{Line}
 use Rattle.text.specs.declared.reading.Line.TheVariants as line
-use Rattle.driver.specs.Served.{Reopened, Called, Next, Told}
+use Rattle.driver.specs.Served.{Reopened, Called, Next, First, Told}
 use Rattle.driver.specs.declared.served.Served.{Served}
 use Rattle.driver.specs.declared.times.Kind.{Kind}
 use Rattle.driver.specs.declared.limits.Limits.{Limits}
@@ -38,3 +40,10 @@ pub lines_more : (f : Kind → List ℕ) (before now' after : List ℕ) (ks : Li
     now' ≡ before ++ flat_map f (take i ks) → after ≡ now' ++ f k → after ≡ before ++ flat_map f (take (i + 1) ks)
 lines_more f before now' after ks i k more was is =
     is ∙ (ap (λ (xs : List ℕ). xs ++ f k) was ∙ (flat_map_more f before (take i ks) k ∙ ap (λ (js : List Kind). before ++ flat_map f js) (sym more)))
+
+-- a first line that asks for no board
+pub no_board_first : (limits : Limits) (bytes : List ℕ) (r : Result Line ℕ) → Reads bytes r → ((n : ℕ) → r ≡ Ok (line.Board n) → ⊥) →
+    First limits bytes None (codes "refused 1 at " ++ decimal 0)
+no_board_first limits bytes (Ok (line.Board n)) asks not' = absurd (not' n refl)
+no_board_first limits bytes (Ok (line.Call call)) says not' = First.call_before call says
+no_board_first limits bytes (Err p) stops not' = First.unreadable p stops

@@ -5,7 +5,7 @@ ghost use Rattle.hexboard.specs.Words.{words};
 ghost use Rattle.session.specs.Desks.{desk_game};
 ghost use Rattle.driver.specs.Drawn.{Drawn, Marked, shown_by};
 
-use session::{Desk, with_way};
+use session::Desk;
 use std::fmt;
 use std::fmt::Write;
 use text::{write_board, write_outcome};
@@ -24,7 +24,7 @@ pub fn write_marked_position(out: &mut String, desk: &mut Desk) -> fmt::Result
     ensures { OnOk result (Marked (desk_game desk.old) (desk_game desk.new) (string_bytes out.old) (string_bytes out.new)) }
 {
     let reply = desk.serve(Call::Who);
-    let way = cells_of(with_way(reply, desk.way()));
+    let way = cells_of(desk.answer(reply));
     draw(out, desk, way)
 }
 

@@ -1,26 +1,23 @@
 // One line in, one line out.
-ghost use Rattle.std.specs.Prelude.{◌≡◌, ℕ, List, ◌++◌, IfOk, string_bytes, codes, decimal, OnOk};
+ghost use Rattle.std.specs.Prelude.{◌≡◌, ◌++◌, IfOk, string_bytes, codes, decimal, OnOk};
 ghost use Rattle.session.specs.Desks.{desk_game};
-ghost use Rattle.text.specs.Lines.{Asks};
 ghost use Rattle.driver.specs.Served.{trimmed, first_served, Opens, opening, Reopened, Called, Told, ToldFirst, LineServed};
 
 use crate::failed::Failed;
 use crate::limits::Limits;
 use crate::served::Served;
-use session::{Desk, Reply, Unopened, with_way};
-use std::alloc::Global;
-use std::fmt;
+use session::{Desk, Reply, Unopened};
+use std::alloc::{AllocError, Global};
 use std::fmt::Write;
 use text::{Line, read_line};
 use wire::{Call, Refusal};
 
 // Adds that a line cannot be read, and the place of its first byte that does not fit. No Display of a refusal says this: a line can be
 // longer than the two bytes count that a refusal has for the place.
-fn write_unreadable(out: &mut String, place: usize) -> fmt::Result
+fn write_unreadable(out: &mut String, place: usize) -> Result<(), AllocError>
     ensures { OnOk result (string_bytes out.new ≡ string_bytes out.old ++ (codes "refused 1 at " ++ decimal place)) }
 {
-    write!(out, "refused 1 at {place}")?;
-    Ok(())
+    write!(out, "refused 1 at {place}")
 }
 
 // A board no larger than the program serves, or none where n is out of range.
@@ -48,26 +45,8 @@ pub fn first_line(
     ensures { IfOk result (λ d. ToldFirst limits line.now d (string_bytes out.old) (string_bytes out.new)) }
 {
     match read_line(line) {
-        Ok(asked) => follow_first(heap, limits, asked, out),
-        Err(_place) => {
-            write_unreadable(out, 0)?;
-            Ok(None)
-        }
-    }
-}
-
-// What a line asks for before the first board.
-fn follow_first(
-    heap: Global,
-    limits: Limits,
-    line: Line,
-    out: &mut String,
-) -> Result<Option<Desk>, Failed>
-    ensures { IfOk result (λ d. (bytes : List ℕ) → Asks bytes line → ToldFirst limits bytes d (string_bytes out.old) (string_bytes out.new)) }
-{
-    match line {
-        Line::Board(n) => open_first(heap, limits, n, out),
-        Line::Call(_call) => {
+        Ok(Line::Board(n)) => open_first(heap, limits, n, out),
+        Ok(Line::Call(_)) | Err(_) => {
             write_unreadable(out, 0)?;
             Ok(None)
         }
@@ -107,27 +86,12 @@ pub fn next_line(
     ensures { IfOk result (λ served. Told limits line.now (desk_game desk.old) (desk_game desk.new) served (string_bytes out.old) (string_bytes out.new)) }
 {
     match read_line(line) {
+        Ok(Line::Board(n)) => reopen(heap, limits, n, desk, out),
+        Ok(Line::Call(call)) => serve(limits, desk, call, out),
         Err(place) => {
             write_unreadable(out, place)?;
             Ok(Served::Refused)
         }
-        Ok(asked) => follow(heap, limits, asked, desk, out),
-    }
-}
-
-// What a line asks for on the board there is.
-fn follow(
-    heap: Global,
-    limits: Limits,
-    line: Line,
-    desk: &mut Desk,
-    out: &mut String,
-) -> Result<Served, Failed>
-    ensures { IfOk result (λ served. (bytes : List ℕ) → Asks bytes line → Told limits bytes (desk_game desk.old) (desk_game desk.new) served (string_bytes out.old) (string_bytes out.new)) }
-{
-    match line {
-        Line::Board(n) => reopen(heap, limits, n, desk, out),
-        Line::Call(call) => serve(limits, desk, call, out),
     }
 }
 
@@ -145,8 +109,7 @@ fn serve(limits: Limits, desk: &mut Desk, call: Call, out: &mut String) -> Resul
     } else {
         desk.serve(call)
     };
-    let answer = with_way(reply, desk.way());
-    write!(out, "{answer}")?;
+    write!(out, "{}", desk.answer(reply))?;
     Ok(Served::from(reply))
 }
 

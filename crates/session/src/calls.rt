@@ -8,15 +8,16 @@ ghost use Rattle.history.specs.Played.{winner_of};
 ghost use Rattle.session.specs.Desks.{desk_game, Opened};
 ghost use Rattle.session.specs.Replies.{replied};
 ghost use Rattle.session.specs.Told.{told, told_who};
+ghost use Rattle.wire.specs.Formal as formal;
 ghost use Rattle.wire.specs.Formal.{asked};
 
 use crate::desk::Desk;
-use crate::reply::Reply;
+use crate::reply::{Reply, with_way};
 use crate::serve::{serve, who};
 use crate::unopened::Unopened;
 use hexboard::{Side, Size};
 use std::alloc::{AllocError, Global};
-use wire::{Call, Refusal};
+use wire::{Answer, Call, Refusal};
 
 impl Desk {
     // A new game on a board n wide and n tall, n from 1 to 19. All memory that it will ever need is asked for here.
@@ -112,6 +113,13 @@ impl Desk {
         ensures { result.now ≡ self.now.way.items }
     {
         &self.way
+    }
+
+    // The answer that a reply of this desk is, with the way that was found last if the reply tells one.
+    pub fn answer(&self, reply: Reply) -> Answer<&[u8]>
+        ensures { formal.told result ≡ replied reply self.now.way.items }
+    {
+        with_way(reply, &self.way)
     }
 
     // Who has won: the side that has connected, or nobody.

@@ -6,7 +6,6 @@ ghost use Rattle.session.specs.Desks.{desk_game};
 ghost use Rattle.session.specs.Runs.{Heard, ContractsSuffice};
 
 use crate::desk::Desk;
-use crate::reply::with_way;
 use crate::unopened::Unopened;
 use std::alloc::Global;
 use wire::{Answer, Call};
@@ -28,7 +27,7 @@ impl Desk {
     {
         for call in calls {
             let reply = self.serve(*call);
-            sink.hear(with_way(reply, self.way()));
+            sink.hear(self.answer(reply));
         }
     }
 }

@@ -1,9 +1,11 @@
 -- How far a row of bytes goes along with a word, with what stands behind the word, and with one of several forms.
-use Rattle.std.proofs.Common.{◌≡◌, ℕ, ◌+◌, ◌-◌, ◌<◌, ◌≤◌, max, ◌⊎◌, List, [], ◌++◌, length, get_or, take, drop, sym, refl, ap, ◌∙◌, subst, inl, inr, ⊎_elim, arith, take-add}
+use Rattle.std.proofs.Common.{◌≡◌, ℕ, zero, suc, ◌+◌, ◌-◌, ◌<◌, ◌≤◌, max, ◌⊎◌, List, [], ◌∷◌, ◌++◌, length, get_or, take, drop, slice_index_or, Bor, codes, sym, refl, ap, ◌∙◌, subst, inl, inr, ⊎_elim, arith, take-add}
 use Rattle.std.proofs.lemmas.List.Prefix.{front_rest}
 use Rattle.std.proofs.lemmas.List.{append_assoc, append_cancel_left, append-nil, ext_get_or, get_or_append_left, get_or-take, length-append, length-drop, length-take-le, nil_from_length, take_all, take-append-drop}
 use Rattle.std.proofs.str.Laws.{order}
-use Rattle.text.specs.Lines.{Word}
+use Rattle.wire.specs.declared.call.Call.{Call}
+use Rattle.wire.specs.declared.call.Call.TheVariants.{Move}
+use Rattle.text.specs.Lines.{Word, SomeWord}
 use Rattle.text.specs.Places.{Agree, Stops}
 
 -- a word, and behind it bytes of the form G
@@ -135,3 +137,38 @@ either_stops F G bytes p q f g = record {
       (order p q);
   no_further = λ k more h rest. ⊎_elim (f.no_further k (omega arith) h rest) (g.no_further k (omega arith) h rest);
 }
+
+-- words, each with the call that it asks for
+abbrev Words : Type 0
+Words = List (Bor (List ℕ) × Call)
+
+abbrev word_at : Words → ℕ → List ℕ
+word_at words i = (slice_index_or words i (record { ref_ptr = (0, 0); now = [] }, Move 0)).0.now
+
+-- one of the words up to this one
+abbrev UpTo : Words → ℕ → List ℕ → Type 0
+UpTo words zero cs = Word (word_at words zero) cs
+UpTo words (suc i) cs = Word (word_at words (suc i)) cs ⊎ UpTo words i cs
+
+-- where the bytes have stopped to be one of so many words; with none tried, their start
+abbrev pub Tried : Words → ℕ → List ℕ → ℕ → Type 0
+Tried words zero bytes p = p ≡ 0
+Tried words (suc i) bytes p = Stops (UpTo words i) bytes p
+
+pub tried_more : (words : Words) (i : ℕ) (bytes : List ℕ) (p q r : ℕ) → r ≡ max q p → Tried words i bytes p → Stops (Word (word_at words i)) bytes q →
+    Tried words (i + 1) bytes r
+tried_more words zero bytes p q r e none f = let m : q ≡ r = omega (arith, e, none) in subst (Stops (Word (word_at words zero)) bytes) m f
+tried_more words (suc i) bytes p q r e before f =
+    let next : suc (suc i) ≡ suc i + 1 = omega arith in
+    subst (λ n. Tried words n bytes r) next
+    (subst (Stops (UpTo words (suc i)) bytes) (sym e) (either_stops (Word (word_at words (suc i))) (UpTo words i) bytes q p f before))
+
+-- where the words of all calls that are a word alone are tried
+pub all_tried : (x y z : Bor (List ℕ) × Call) (i : ℕ) (bytes : List ℕ) (p : ℕ) → i ≡ 3 →
+    x.0.now ≡ codes "back" → y.0.now ≡ codes "who" → z.0.now ≡ codes "can force" → Tried (x ∷ y ∷ z ∷ []) i bytes p → Stops SomeWord bytes p
+all_tried x y z i bytes p all back who can_force tried =
+    let words : Words = x ∷ y ∷ z ∷ [] in
+    stops_as (UpTo words 2) SomeWord
+    (λ cs. ⊎_elim (λ e. inl (inl (e ∙ can_force))) (⊎_elim (λ e. inr (e ∙ who)) (λ e. inl (inr (e ∙ back)))))
+    (λ cs. ⊎_elim (⊎_elim (λ e. inl (e ∙ sym can_force)) (λ e. inr (inr (e ∙ sym back)))) (λ e. inr (inl (e ∙ sym who))))
+    bytes p (subst (λ n. Tried words n bytes p) all tried)

@@ -61,22 +61,23 @@ fn number_after(word: &[u8], line: &[u8]) -> Result<u16, usize>
     number(&line[same..]).map_err(|place| same + place)
 }
 
-// The call that is a word alone, or the place of the first byte that does not fit.
+// The call that is a word alone, or the place of the first byte that does not fit, as far as the furthest of the words goes.
 fn read_word(line: &[u8]) -> Result<Call, usize>
     ensures { MatchResult result (λ call. Says line.now call) (λ p. Stops SomeWord line.now p) }
 {
-    let back = match is_word(b"back", line) {
-        Ok(()) => return Ok(Call::Back),
-        Err(place) => place,
-    };
-    let who = match is_word(b"who", line) {
-        Ok(()) => return Ok(Call::Who),
-        Err(place) => place,
-    };
-    match is_word(b"can force", line) {
-        Ok(()) => Ok(Call::CanForce),
-        Err(place) => Err(place.max(back).max(who)),
+    let words = [
+        (b"back".as_slice(), Call::Back),
+        (b"who".as_slice(), Call::Who),
+        (b"can force".as_slice(), Call::CanForce),
+    ];
+    let mut furthest = 0;
+    for (word, call) in words {
+        match is_word(word, line) {
+            Ok(()) => return Ok(call),
+            Err(place) => furthest = place.max(furthest),
+        }
     }
+    Err(furthest)
 }
 
 // How many bytes at the front of the line are those of the word.

@@ -1,5 +1,4 @@
 use Rattle.std.proofs.Common.{ap, ◌∙◌}
-use Rattle.session.specs.Replies.{replied}
 use Rattle.driver.specs.Drawn.{shown_by}
 use Rattle.driver.proofs.Answering.{made_more}
 use Rattle.driver.proofs.Outcomes.{marked}
@@ -8,5 +7,5 @@ use Rattle.driver.proofs.drawing.write_marked_position.Goals as goal
 pub returns : goal.returns
 returns c =
     made_more c.draw.result
-    (λ _ shown. marked _ _ _ _ _ _ c.serve-reply.ensures (c.cells_of-way.ensures ∙ ap shown_by (c.with_way.ensures ∙ ap (replied c.serve-reply.result) c.way.ensures)) shown)
+    (λ _ shown. marked _ _ _ _ _ _ c.serve-reply.ensures (c.cells_of-way.ensures ∙ ap shown_by c.answer.ensures) shown)
     c.draw.ensures
