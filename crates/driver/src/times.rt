@@ -2,7 +2,7 @@
 ghost use Rattle.std.specs.Prelude.{◌≡◌, ℕ, ◌-◌, ◌^◌, min, List, ◌++◌, Some, string_bytes, OnOk};
 ghost use Rattle.std.specs.Duration.{as_nanos};
 ghost use Rattle.driver.specs.Served.{trimmed};
-ghost use Rattle.driver.specs.Timed.{kind_of_line, name_of, OfKind, capped, one_more, tally_of, noted, tally_line, times_lines};
+ghost use Rattle.driver.specs.Timed.{no_lines, kind_of_line, name_of, OfKind, capped, one_more, tally_of, noted, tally_line, times_lines};
 
 use crate::lines::without_return;
 use std::fmt;
@@ -101,9 +101,14 @@ impl Tally {
 }
 
 impl Times {
-    pub const NONE: Times = Times {
-        tallies: [Tally::NONE; 5],
-    };
+    // The times before the first line.
+    pub fn new() -> Times
+        ensures { (kind : Kind) → tally_of result kind ≡ no_lines }
+    {
+        Times {
+            tallies: [Tally::NONE; 5],
+        }
+    }
 
     // The tally of a kind.
     fn of(&self, kind: Kind) -> Tally

@@ -134,7 +134,7 @@ fn serve_input<P: Printing>(
 ) -> anyhow::Result<()> {
     let heap = rt.alloc();
     let mut desk = None;
-    let mut times = timed.then_some(Times::NONE);
+    let mut times = timed.then(Times::new);
     let mut out = String::new(heap);
     for (number, line) in (1u64..).zip(BufReader::new(heap, rt.stdin())?.split(heap, b'\n')) {
         let line = line?;
