@@ -2,8 +2,8 @@
 """Plants bugs in a crate's code, one at a time, and tells those that the prover still accepts: `tools/plant.py CRATE [--count N] [--seed N]`.
 
 A bug changes one place of a line: another comparison, another sign, one more, two things swapped, a statement left out, a side, a case or a
-step of an iterator changed. Each is tried by `rt check` in a copy of the repository, which is left as it is; what does not compile is drawn again.
-A line is printed for each: `killed`, with what was not proved, or `SURVIVED`. The last line counts.
+step of an iterator changed. With a count of 0 every place is tried. Each is tried by `rt check` in a copy of the repository, which is left as
+it is; what does not compile is drawn again. A line is printed for each: `killed`, with what was not proved, or `SURVIVED`. The last line counts.
 """
 import argparse
 import os
@@ -51,6 +51,7 @@ CHANGES = [
     (r"\bNone\b(?= =>|;|,|$)(?!.*=>)", "Some(0)"),
     (r"(?<= )!(?=[a-z(])", ""),
     (r"\bif (?=[a-z!])(?!let)", "if !"),
+    (r"(?<=return )(\w+)(?=;)", "0"),
 ]
 NUMBER = re.compile(r"(?<![\w.\[])(\d+)(?![\w.])")
 PAIR = re.compile(r"\(([\w&.]+), ([\w&.]+)\)")
@@ -71,7 +72,7 @@ def places(source):
         if clause:
             clause = not text.endswith("}")
             continue
-        if re.match(r"(pub(\(crate\))? |const |unsafe )*(fn|impl|struct|enum|trait|mod|const)\b", text):
+        if re.match(r"(pub(\(crate\))? |const |unsafe )*(fn|impl|struct|enum|trait|mod)\b", text):
             continue
         code = line.split("//")[0]
         for pattern, new in CHANGES:
@@ -125,7 +126,7 @@ def main():
         random.Random(asked.seed).shuffle(sites)
         counts = {"killed": 0, "survived": 0, "skipped": 0}
         for path, number, new in sites:
-            if counts["killed"] + counts["survived"] >= asked.count:
+            if asked.count and counts["killed"] + counts["survived"] >= asked.count:
                 break
             text = open(path, encoding="utf-8").read()
             lines = text.split("\n")
