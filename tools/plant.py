@@ -1,9 +1,12 @@
 #!/usr/bin/env python3
-"""Plants bugs in a crate's code, one at a time, and tells those that the prover still accepts: `tools/plant.py CRATE [--count N] [--seed N]`.
+"""Plants bugs in a crate's code, one at a time, and tells those that the prover still accepts: `tools/plant.py CRATE [--count N] [--seed N] [--run]`.
 
 A bug changes one place of a line: another comparison, another sign, one more, two things swapped, a statement left out, a side, a case or a
 step of an iterator changed. With a count of 0 every place is tried. Each is tried by `rt check` in a copy of the repository, which is left as
 it is; what does not compile is drawn again. A line is printed for each: `killed`, with what was not proved, or `SURVIVED`. The last line counts.
+
+With --run, for code that prints, of which no clause can speak: what the prover accepts is also run, and it is killed if a program prints anything
+else than without the bug, or ends otherwise.
 """
 import argparse
 import os
@@ -57,6 +60,22 @@ NUMBER = re.compile(r"(?<![\w.\[])(\d+)(?![\w.])")
 PAIR = re.compile(r"\(([\w&.]+), ([\w&.]+)\)")
 
 
+# What the programs are run on, with --run: a program, its arguments, and a file that it reads.
+RUNS = [
+    ("answer", [], "crates/answer/stdin"),
+    ("answer", ["--help"], "/dev/null"),
+    ("answer", ["--show"], "crates/answer/stdin"),
+    ("show", [], "crates/show/stdin"),
+    ("show", [], "/dev/null"),
+    ("show", ["--help"], "/dev/null"),
+    ("desk", ["--show"], "crates/answer/stdin"),
+    ("desk", ["--show", "--times"], "examples/long-way.txt"),
+    ("desk", ["--times"], "crates/answer/stdin"),
+    ("desk", ["--help", "--show"], "/dev/null"),
+    ("desk", ["--times", "--tims"], "/dev/null"),
+]
+
+
 def places(source):
     """Each line's number with what it becomes."""
     clause = False
@@ -105,17 +124,35 @@ def judged(copy, crate):
     return "killed", out.strip().split("\n")[-1][:160]
 
 
+def told(copy, programs):
+    """What each run of these programs gives: its status, its output, and what it tells on standard error, where only times may differ."""
+    for program in programs:
+        built = subprocess.run(["rt", "run"], cwd=os.path.join(copy, "crates", program), stdin=subprocess.DEVNULL, capture_output=True, text=True, timeout=600)
+        if not os.path.exists(os.path.join(copy, "crates", program, "out", program)):
+            return [(program, "does not build", built.stderr[-400:])]
+    runs = []
+    for program, arguments, file in RUNS:
+        if program in programs:
+            with open(os.path.join(copy, file), "rb") as given:
+                ran = subprocess.run([os.path.join(copy, "crates", program, "out", program), *arguments], stdin=given, capture_output=True, timeout=120)
+            runs.append((" ".join([program, *arguments, "<", file]), ran.returncode, ran.stdout, re.sub(rb"\d+ ns", b"N ns", ran.stderr)))
+    return runs
+
+
 def main():
     parser = argparse.ArgumentParser(description=__doc__.split("\n")[0])
     parser.add_argument("crate")
     parser.add_argument("--count", type=int, default=40)
     parser.add_argument("--seed", type=int, default=1)
+    parser.add_argument("--run", action="store_true")
     asked = parser.parse_args()
     root = subprocess.check_output(["git", "rev-parse", "--show-toplevel"], text=True).strip()
     with tempfile.TemporaryDirectory(prefix="plant-") as work:
         copy = os.path.join(work, "repository")
         shutil.copytree(root, copy, ignore=shutil.ignore_patterns("target"))
         assert judged(copy, asked.crate)[0] == "survived", "the crate is not proved as it is"
+        programs = sorted({program for program, _, _ in RUNS if asked.run and asked.crate in ("programs", program)})
+        right = told(copy, programs)
         source = os.path.join(copy, "crates", asked.crate, "src")
         sites = []
         for base, _, names in os.walk(source):
@@ -133,6 +170,10 @@ def main():
             old, lines[number] = lines[number], new
             open(path, "w", encoding="utf-8").write("\n".join(lines))
             what, why = judged(copy, asked.crate)
+            if what == "survived" and programs:
+                other = [now[0] for now, was in zip(told(copy, programs), right) if now != was]
+                if other:
+                    what, why = "killed", "told by " + other[0]
             open(path, "w", encoding="utf-8").write(text)
             counts[what] += 1
             if what == "skipped":

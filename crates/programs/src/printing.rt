@@ -1,4 +1,7 @@
 // What the programs print: for each line, and at the end.
+ghost use Rattle.std.specs.Prelude.{Decides};
+ghost use Rattle.programs.specs.Printed.{LeadsOn};
+
 use driver::{Kind, Served, write_marked_position, write_position};
 use session::Desk;
 use std::fmt::Write;
@@ -9,6 +12,16 @@ pub struct Line {
     pub number: u64,
     pub kind: Option<Kind>,
     pub served: Served,
+}
+
+impl Line {
+    // Whether the line was taken, and opened a board or changed the one there was.
+    fn leads_on(self) -> bool
+        ensures { Decides result (LeadsOn self) }
+    {
+        self.served == Served::Taken
+            && matches!(self.kind, Some(Kind::Board | Kind::Move | Kind::Back))
+    }
 }
 
 // What a program prints.
@@ -62,9 +75,7 @@ impl Printing for Positions {
         out: &mut String,
     ) -> anyhow::Result<()> {
         rt.println(out.as_str())?;
-        let leads_on = matches!(line.kind, Some(Kind::Board | Kind::Move | Kind::Back));
-        if line.served == Served::Taken
-            && leads_on
+        if line.leads_on()
             && let Some(desk) = desk
         {
             out.clear();

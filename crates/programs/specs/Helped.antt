@@ -1,0 +1,19 @@
+-- What --help tells of a program. Definitions only.
+use Rattle.std.specs.Prelude.{ℕ, List, ◌++◌, Some, None, codes, decimal, Option}
+use Rattle.programs.specs.declared.Program.{Program}
+use Rattle.programs.specs.declared.help.TheConstants.{LINES}
+
+-- how large its boards are, and how long an end it looks through: `Limits: boards from 1 by 1 to 7 by 7; can force with at most 10 empty cells.`
+abbrev pub boards_told : ℕ → List ℕ
+boards_told largest = codes "Limits: boards from 1 by 1 to " ++ (decimal largest ++ (codes " by " ++ (decimal largest ++ codes "; ")))
+
+abbrev pub ends_told : Option ℕ → List ℕ
+ends_told (Some ends) = codes "can force with at most " ++ (decimal ends ++ codes " empty cells.\n")
+ends_told None = codes "no can force.\n"
+
+-- what it tells of itself, the lines that every program reads, and how far it goes, with ends so long
+abbrev pub help_with : Program → Option ℕ → List ℕ
+help_with program ends = program.help.now ++ (LINES.now ++ boards_told program.limits.largest) ++ ends_told ends
+
+abbrev pub help_lines : Program → List ℕ
+help_lines program = help_with program program.limits.ends

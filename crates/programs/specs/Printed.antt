@@ -1,0 +1,19 @@
+-- What the programs print. Definitions only.
+use Rattle.std.specs.Prelude.{◌≡◌, Some, None, Option, ⊤}
+use Rattle.driver.specs.declared.times.Kind.{Kind}
+use Rattle.driver.specs.declared.times.Kind.TheVariants.{Board, Move, Back, Who, CanForce}
+use Rattle.driver.specs.declared.served.Served.TheVariants.{Taken}
+use Rattle.programs.specs.declared.printing.Line.{Line}
+
+-- a line of this kind opens a board, or changes the one there is
+abbrev pub Changing : Option Kind → Type 0
+Changing (Some Board) = ⊤
+Changing (Some Move) = ⊤
+Changing (Some Back) = ⊤
+Changing (Some Who) = ⊥
+Changing (Some CanForce) = ⊥
+Changing None = ⊥
+
+-- the line was taken, and leads to another position
+abbrev pub LeadsOn : Line → Type 0
+LeadsOn line = (line.served ≡ Taken) × Changing line.kind
