@@ -3,6 +3,7 @@ pub mod Joining
 pub mod Laying
 pub mod Carried
 pub mod Threats
+pub mod Choosing
 pub mod Nodes
 pub mod Full
 pub mod Searching

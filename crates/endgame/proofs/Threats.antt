@@ -40,16 +40,3 @@ two_threats threats free t u h i =
           (λ other. (t, other, or_left t (2 ^ t) (2 ^ u) (one_in t)))
           (cases_eq t k);
     }
-
--- what the choice of the best cell keeps: a cell of the set, and what is left to look at
-pub record Choosing (must best rest : ℕ) : Type 0 where
-  pub chosen : bit best must ≡ 1
-  pub inside : Within rest must
-
--- one cell has been looked at, whether it is taken or not
-pub choosing_more : {must best rest : ℕ} (k z next : ℕ) → Choosing must best rest → bit k rest ≡ 1 → z ≡ 2 ^ k →
-    (next ≡ best) ⊎ (next ≡ k) → Choosing must next (rest - z)
-choosing_more {must} {best} {rest} k z next h i e which = record {
-  chosen = ⊎_elim (λ s. rw s h.chosen) (λ s. rw s (h.inside k i)) which;
-  inside = λ j l. h.inside j (⊎_elim (λ p. absurd (omega arith)) (λ p. sym p.1 ∙ l) (rw (← e) at (bit_less k rest i j)));
-}

@@ -3,5 +3,6 @@ pub mod Winners
 pub mod Findings
 pub mod Ends
 pub mod Replies
+pub mod Choices
 pub mod Linked
 pub mod Searched

@@ -6,6 +6,7 @@ ghost use Rattle.ranking.specs.Table.{entry};
 ghost use Rattle.endgame.specs.Ends.{Node, Tells, moved};
 ghost use Rattle.endgame.specs.Findings.{carrier_of, StepsInto, NamesStep};
 ghost use Rattle.endgame.specs.Replies.{Replied};
+ghost use Rattle.endgame.specs.Choices.{WeighsBoth, FirstHeaviest};
 
 use super::links::Links;
 use super::winner::Winner;
@@ -79,10 +80,11 @@ fn replies(threats: u64, free: u64) -> Cut
 const CELLS: u64 = 0xffff;
 
 // Of the cells that must be tried, the first of those that are linked best for both sides together. Only stones on cells of an end weigh.
+// Which cell it is decides no answer, only how soon it is found.
 fn best(mine: &Links, theirs: &Links, at: Position, must: u64) -> u32
     requires some { 0 < must }
     requires fits { must < 2 ^ 16 }
-    ensures { bit result must ≡ 1 }
+    ensures { FirstHeaviest (WeighsBoth mine.now theirs.now at) must result }
 {
     let own = at.mine & CELLS;
     let others = at.theirs & CELLS;

@@ -67,7 +67,7 @@ best-step-requires-clause-fits t c =
 -- the step is a free cell
 module _ (t : ℕ) (c : After-best-step t) where
   free : bit c.best-step.result c.args.at.free ≡ 1
-  free = c.loop-must.invariant.inside c.best-step.result c.best-step.ensures
+  free = c.loop-must.invariant.inside c.best-step.result c.best-step.ensures.chosen
 
   small : c.best-step.result < 16
   small = le_trans (cell_below c.args.ranking.now.cells c.best-step.result c.args.at.free c.requires.node.free_fits free) c.args.ranking.now.few
@@ -106,13 +106,13 @@ module _ (t : ℕ) (c : After-solve t) where
 pub loop-must-smaller : goal.loop-must-smaller
 loop-must-smaller t c =
     let at = (goal.at.loop-must-smaller t c).After-solve in
-    and_less c.best-step.result c.loop-must.must c.in-Won.carrier c.best-step.ensures
+    and_less c.best-step.result c.loop-must.must c.in-Won.carrier c.best-step.ensures.chosen
     (left_out c.best-step.result c.in-Won.carrier c.args.at.free (free t (goal.at.loop-must-smaller t c).After-best-step) (within-then t at c.in-Won.carrier c.in-Won.ensures.within))
 
 pub loop-must-preserved : goal.loop-must-preserved
 loop-must-preserved t c =
     let at = (goal.at.loop-must-preserved t c).After-solve in
-    searching_cut c.requires.node c.completions.ensures (none t (goal.at.loop-must-preserved t c).In_default) c.loop-must.invariant c.best-step.result c.best-step.ensures
+    searching_cut c.requires.node c.completions.ensures (none t (goal.at.loop-must-preserved t c).In_default) c.loop-must.invariant c.best-step.result c.best-step.ensures.chosen
     (within-then t at c.in-Won.carrier c.in-Won.ensures.within) (tells-then t at c.in-Won.ensures.tells)
 
 pub put-requires-clause-inside : goal.put-requires-clause-inside
@@ -126,14 +126,14 @@ pub returns-in-Lost-clause-within : goal.returns-in-Lost-clause-within
 returns-in-Lost-clause-within t c =
     let at = (goal.at.returns-in-Lost-clause-within t c).After-solve in
     rw c.one-in-Lost.ensures
-    (won_within c.requires.node c.completions.ensures (none t (goal.at.returns-in-Lost-clause-within t c).In_default) c.loop-must.invariant c.best-step.result c.best-step.ensures
+    (won_within c.requires.node c.completions.ensures (none t (goal.at.returns-in-Lost-clause-within t c).In_default) c.loop-must.invariant c.best-step.result c.best-step.ensures.chosen
     c.in-Lost.carrier (within-then t at c.in-Lost.carrier c.in-Lost.ensures.within))
 
 pub returns-in-Lost-clause-tells : goal.returns-in-Lost-clause-tells
 returns-in-Lost-clause-tells t c =
     let at = (goal.at.returns-in-Lost-clause-tells t c).After-solve in
     rw c.one-in-Lost.ensures
-    (searching_won c.requires.node c.completions.ensures (none t (goal.at.returns-in-Lost-clause-tells t c).In_default) c.loop-must.invariant c.best-step.result c.best-step.ensures
+    (searching_won c.requires.node c.completions.ensures (none t (goal.at.returns-in-Lost-clause-tells t c).In_default) c.loop-must.invariant c.best-step.result c.best-step.ensures.chosen
     c.put.new.table (within-then t at c.in-Lost.carrier c.in-Lost.ensures.within) (tells-then t at c.in-Lost.ensures.tells) (rw (c.place-place.ensures, c.into.ensures) at c.put.ensures))
 
 pub put-requires-2-clause-inside : goal.put-requires-2-clause-inside

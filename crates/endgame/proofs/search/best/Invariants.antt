@@ -1,8 +1,9 @@
-use Rattle.endgame.proofs.Threats.{Choosing}
+use Rattle.endgame.specs.Choices.{WeighsBoth}
+use Rattle.endgame.proofs.Choosing.{Choosing}
 use Rattle.endgame.proofs.search.best.Given as goal
 
 abbrev pub invariant-loop-rest : goal.invariant-loop-rest
-invariant-loop-rest l = Choosing l.must l.best l.rest
+invariant-loop-rest l = Choosing (WeighsBoth l.mine l.theirs l.at) l.must l.best l.most l.rest
 
 abbrev pub decreases-loop-rest : goal.decreases-loop-rest
 decreases-loop-rest l = l.rest
