@@ -1,5 +1,5 @@
 // Opening a desk, and its calls. Each answer is right by the rules for the games before and after it.
-ghost use Rattle.std.specs.Prelude.{◌≡◌, ℕ, ◌<◌, ◌≤◌, IfOk, MatchOption};
+ghost use Rattle.std.specs.Prelude.{◌≡◌, ℕ, ◌<◌, ◌≤◌, IfOk, MatchOption, replicate, vec_items};
 ghost use Rattle.hexboard.specs.Board.{Connects, empties};
 ghost use Rattle.hexboard.specs.Games as games;
 ghost use Rattle.hexboard.specs.Sides.{number};
@@ -19,6 +19,13 @@ use hexboard::{Side, Size};
 use std::alloc::{AllocError, Global};
 use wire::{Answer, Call, Refusal};
 
+// So many bytes, all 0.
+fn bytes(heap: Global, count: usize) -> Result<Vec<u8>, AllocError>
+    ensures { IfOk result (λ v. vec_items v ≡ replicate count 0) }
+{
+    vec![in heap; 0; count]
+}
+
 impl Desk {
     // A new game on a board n wide and n tall, n from 1 to 19. All memory that it will ever need is asked for here.
     pub fn open(heap: Global, n: u16) -> Result<Desk, Unopened>
@@ -35,12 +42,12 @@ impl Desk {
         ensures { IfOk result (λ d. desk_game d ≡ games.new_game size.n) }
     {
         let cells = usize::from(size.cells());
-        let mut stones = vec![in heap; 0; cells]?;
-        let mut log = vec![in heap; 0; cells * 2]?;
-        let mut parents = vec![in heap; 0; cells * 2]?;
-        let mut borders = vec![in heap; 0; cells]?;
-        let scratch = vec![in heap; 0; verdict::table_bytes(size)]?;
-        let way = vec![in heap; 0; cells * 2]?;
+        let mut stones = bytes(heap, cells)?;
+        let mut log = bytes(heap, cells * 2)?;
+        let mut parents = bytes(heap, cells * 2)?;
+        let mut borders = bytes(heap, cells)?;
+        let scratch = bytes(heap, verdict::table_bytes(size))?;
+        let way = bytes(heap, cells * 2)?;
         let game = history::start(size, &mut stones, &mut log, &mut parents, &mut borders);
         Ok(Desk {
             game,
