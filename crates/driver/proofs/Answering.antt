@@ -25,7 +25,7 @@ pub called_next : (limits : Limits) (bytes : List ℕ) (call : Call) (g h : game
     Called limits call g h served before after → Told limits bytes g h served before after
 called_next limits bytes call g h served before after says =
     ⊎_elim
-    (λ told. let (a, written, is, right) = told.2 in (line_of a, written, rw is (Next.answered call a says told.0 told.1 right)))
+    (λ told. let (a, written, is, right, short) = told.2 in (line_of a, written, rw is (Next.answered call a says told.0 told.1 right short)))
     (⊎_elim
     (λ far. (line_of games.too_many, far.3, rw (far.1, far.2) (Next.beyond call says far.0)))
     (λ not'. (codes "refused 1 at " ++ decimal 0, not'.3, rw (not'.1, not'.2) (Next.unserved call says not'.0))))

@@ -6,6 +6,7 @@ use Rattle.wire.specs.Formal.{asked}
 use Rattle.wire.specs.declared.call.Call.{Call}
 use Rattle.wire.specs.declared.call.Call.TheVariants.{Move, Back, Who, CanForce}
 use Rattle.session.specs.Desks.{desk_game}
+use Rattle.session.specs.Short.{Short}
 use Rattle.session.specs.declared.desk.Desk.{Desk}
 use Rattle.wire.specs.Answers.{line_of}
 use Rattle.text.specs.Lines.{Asks, Says, Readable}
@@ -52,11 +53,11 @@ answer_is_taken (games.yes next) = Taken
 answer_is_taken games.no = Taken
 answer_is_taken games.too_many = Taken
 
--- a call in game g: its answer is written and right, with h the game afterwards; or it is too many, and beyond the limits; or it is
+-- a call in game g: its answer is written and right, with h the game afterwards, and a way that it shows is a shortest; or it is too many, and beyond the limits; or it is
 -- refused, as the program does not serve it
 abbrev pub Called : Limits → Call → games.Game → games.Game → Served → List ℕ → List ℕ → Type 0
 Called limits call g h served before after =
-    ((Unserved limits call → ⊥) × (Beyond limits g call → ⊥) × ((a : games.Answer) × (after ≡ before ++ line_of a) × (served ≡ answer_is_taken a) × games.Right g (asked call) a h))
+    ((Unserved limits call → ⊥) × (Beyond limits g call → ⊥) × ((a : games.Answer) × (after ≡ before ++ line_of a) × (served ≡ answer_is_taken a) × games.Right g (asked call) a h × Short g.board a))
     ⊎ ((Beyond limits g call × (h ≡ g) × (served ≡ Taken) × (after ≡ before ++ line_of games.too_many))
     ⊎ (Unserved limits call × (h ≡ g) × (served ≡ Refused) × (after ≡ before ++ (codes "refused 1 at " ++ decimal 0))))
 
@@ -66,7 +67,7 @@ pub data Next (limits : Limits) (bytes : List ℕ) (g : games.Game) : games.Game
   out_of_range : (n : ℕ) → Asks bytes (line.Board n) → (ServedSize limits n → ⊥) → Next limits bytes g g (line_of (games.refused 3 0)) Refused
   unreadable : (p : ℕ) → Stops Readable bytes p → Next limits bytes g g (codes "refused 1 at " ++ decimal p) Refused
   answered : {h : games.Game} (call : Call) (a : games.Answer) → Says bytes call → (Unserved limits call → ⊥) → (Beyond limits g call → ⊥) →
-      games.Right g (asked call) a h → Next limits bytes g h (line_of a) (answer_is_taken a)
+      games.Right g (asked call) a h → Short g.board a → Next limits bytes g h (line_of a) (answer_is_taken a)
   beyond : (call : Call) → Says bytes call → Beyond limits g call → Next limits bytes g g (line_of games.too_many) Taken
   -- a call that the program does not serve
   unserved : (call : Call) → Says bytes call → Unserved limits call → Next limits bytes g g (codes "refused 1 at " ++ decimal 0) Refused

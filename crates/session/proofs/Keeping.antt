@@ -5,6 +5,7 @@ use Rattle.hexboard.specs.Games as games
 use Rattle.history.specs.Holds.{Memory, lent, formal, Holds}
 use Rattle.history.specs.declared.game.Game.{Game}
 use Rattle.session.specs.Keeps.{Fair, Written, Grouped}
+use Rattle.session.specs.Short.{Short}
 use Rattle.session.specs.Desks.{memory_of}
 use Rattle.session.specs.declared.desk.Desk.{Desk}
 
@@ -52,7 +53,10 @@ pub memory_back : (a b c d a₀ b₀ c₀ d₀ : List ℕ) (i j k l : ℕ) → l
     lent a b c d ≡ lent (whole a a₀ i) (whole b b₀ j) (whole c c₀ k) (whole d d₀ l)
 memory_back a b c d a₀ b₀ c₀ d₀ i j k l p q r s = λ t. lent (given_back a a₀ i p t) (given_back b b₀ j q t) (given_back c c₀ k r t) (given_back d d₀ l s t)
 
--- a right answer, with the memories and the way's bytes named otherwise
+-- a short answer, and a right one, with the memories and the way's bytes named otherwise
+pub short_as : (g : Game) (m m₀ : Memory) (answer : List ℕ → games.Answer) (way way₀ : List ℕ) → m ≡ m₀ → way ≡ way₀ → Short (formal g m).board (answer way) → Short (formal g m₀).board (answer way₀)
+short_as g m m₀ answer way way₀ p r = subst (λ x. x) (λ i. Short (formal g (p i)).board (answer (r i)))
+
 pub right_as : (g h : Game) (m m₀ k k₀ : Memory) (call : games.Call) (answer : List ℕ → games.Answer) (way way₀ : List ℕ) → m ≡ m₀ → k ≡ k₀ → way ≡ way₀ →
     games.Right (formal g m) call (answer way) (formal h k) → games.Right (formal g m₀) call (answer way₀) (formal h k₀)
 right_as g h m m₀ k k₀ call answer way way₀ p q r = subst (λ x. x) (λ i. games.Right (formal g (p i)) call (answer (r i)) (formal h (q i)))

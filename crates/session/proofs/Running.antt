@@ -7,6 +7,7 @@ use Rattle.hexboard.specs.Promise as promise
 use Rattle.wire.specs.Formal.{asked}
 use Rattle.wire.specs.declared.call.Call.{Call}
 use Rattle.history.specs.Holds.{formal, Holds}
+use Rattle.session.specs.Short.{Short}
 use Rattle.session.specs.Runs.{Runs, none, one, Heard, KeepsContracts, ContractsSuffice}
 
 -- too many is right only with more than 16 empty cells
@@ -28,9 +29,9 @@ pub decided : {g h : games.Game} {c : games.Call} {a : games.Answer} → games.R
 decided right is few e = omega (arith, put_off right e)
 
 -- one more call
-pub run_more : {g h k : games.Game} {cs : List games.Call} {answers : List games.Answer} {c : games.Call} {a : games.Answer} → Runs g cs answers h → games.Right h c a k → Runs g (cs ++ c ∷ []) (answers ++ a ∷ []) k
-run_more none right = one right (decided right) none
-run_more (one first d rest) right = one first d (run_more rest right)
+pub run_more : {g h k : games.Game} {cs : List games.Call} {answers : List games.Answer} {c : games.Call} {a : games.Answer} → Runs g cs answers h → games.Right h c a k → Short h.board a → Runs g (cs ++ c ∷ []) (answers ++ a ∷ []) k
+run_more none right short = one right short (decided right) none
+run_more (one first brief d rest) right short = one first brief d (run_more rest right short)
 
 -- what was heard: nothing at first,
 pub heard_none : (g : games.Game) (before : List games.Answer) → Heard g [] g before before
@@ -38,12 +39,12 @@ heard_none g before = ([], sym (append-nil before), none)
 
 -- then an answer more for each call,
 pub heard_more : (g h k : games.Game) (before mid after : List games.Answer) (calls : List Call) (i : ℕ) (call : Call) (a : games.Answer) →
-    take (i + 1) calls ≡ take i calls ++ call ∷ [] → Heard g (take i calls) h before mid → games.Right h (asked call) a k → after ≡ mid ++ a ∷ [] →
+    take (i + 1) calls ≡ take i calls ++ call ∷ [] → Heard g (take i calls) h before mid → games.Right h (asked call) a k → Short h.board a → after ≡ mid ++ a ∷ [] →
     Heard g (take (i + 1) calls) k before after
-heard_more g h k before mid after calls i call a more (answers, was, runs) right now' = (
+heard_more g h k before mid after calls i call a more (answers, was, runs) right short now' = (
   answers ++ a ∷ [],
   now' ∙ (ap (λ (xs : List games.Answer). xs ++ a ∷ []) was ∙ append_assoc before answers (a ∷ [])),
-  subst (λ (cs : List games.Call). Runs g cs (answers ++ a ∷ []) k) (sym (ap (map asked) more ∙ map-append asked (take i calls) (call ∷ []))) (run_more runs right),
+  subst (λ (cs : List games.Call). Runs g cs (answers ++ a ∷ []) k) (sym (ap (map asked) more ∙ map-append asked (take i calls) (call ∷ []))) (run_more runs right short),
 )
 
 -- and at the end an answer to each

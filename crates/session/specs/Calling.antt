@@ -7,6 +7,7 @@ use Rattle.wire.specs.Reading.{read}
 use Rattle.history.specs.Holds.{Memory, formal, Holds}
 use Rattle.history.specs.declared.game.Game.{Game}
 use Rattle.session.specs.Replies.{shown}
+use Rattle.session.specs.Short.{Short}
 
 -- an answer's bytes stand at the front of old, which becomes new; behind them nothing changes
 pub record Shown (a : games.Answer) (old new : List ℕ) (size : ℕ) : Type 0 where
@@ -33,6 +34,7 @@ RightBytes g bytes a h =
 pub record Taken (g : Game) (m : Memory) (scratch bytes old : List ℕ) (h : Game) (k : Memory) (scratch' new : List ℕ) (size : ℕ) : Type 0 where
   pub answer : games.Answer
   pub right : RightBytes (formal g m) bytes answer (formal h k)
+  pub short : Short (formal g m).board answer
   pub shown_in : Shown answer old new size
   pub holds : Holds h k
   pub same_size : h.size ≡ g.size

@@ -1,5 +1,6 @@
 pub mod Replies
 pub mod Told
+pub mod Short
 pub mod Serving
 pub mod Calling
 pub mod Lending

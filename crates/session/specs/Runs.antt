@@ -7,13 +7,14 @@ use Rattle.wire.specs.Formal.{asked}
 use Rattle.wire.specs.declared.call.Call.{Call}
 use Rattle.history.specs.Holds.{Memory, formal, Holds}
 use Rattle.history.specs.declared.game.Game.{Game}
+use Rattle.session.specs.Short.{Short}
 
--- From game g these calls are answered by these answers, one each, and lead to game h. Whether the side to move can force that it
+-- From game g these calls are answered by these answers, one each, and lead to game h. A way that is shown is a shortest. Whether the side to move can force that it
 -- connects is never put off as too many with at most 16 empty cells.
 pub data Runs : games.Game → List games.Call → List games.Answer → games.Game → Type 0 where
   none : {g : games.Game} → Runs g [] [] g
   one : {g h k : games.Game} {c : games.Call} {a : games.Answer} {cs : List games.Call} {answers : List games.Answer} →
-      games.Right g c a h → (c ≡ games.can_force → empties g.board.cells ≤ 16 → a ≢ games.too_many) → Runs h cs answers k → Runs g (c ∷ cs) (a ∷ answers) k
+      games.Right g c a h → Short g.board a → (c ≡ games.can_force → empties g.board.cells ≤ 16 → a ≢ games.too_many) → Runs h cs answers k → Runs g (c ∷ cs) (a ∷ answers) k
 
 -- the calls of the code were answered so, behind the answers that had been heard before
 abbrev pub Heard : games.Game → List Call → games.Game → List games.Answer → List games.Answer → Type 0

@@ -8,6 +8,7 @@ use Rattle.history.specs.Holds.{Memory, formal, Holds}
 use Rattle.history.specs.declared.game.Game.{Game}
 use Rattle.verdict.specs.Verdicts.{bytes_of_table}
 use Rattle.session.specs.Replies.{Reply, replied, way_cells, HasBytes}
+use Rattle.session.specs.Short.{Short}
 use Rattle.wire.specs.declared.answer.Answer.TheVariants.{Refused}
 
 -- Room on a board n wide: scratch for the search for a way, four bytes a cell, and for the table of an end; and for the cells of a way, two bytes a cell.
@@ -24,10 +25,11 @@ pub record Beside : Type 0 where
 abbrev pub beside : List ℕ → List ℕ → Beside
 beside scratch way = record { scratch = scratch; way = way }
 
--- A call on game g in memory m leads to game h in memory k, and is answered by a reply: it is right by the rules for the two games,
--- the memory holds the game again, a refusal changes nothing at all, and of the way's bytes only those of the way are written.
+-- A call on game g in memory m leads to game h in memory k, and is answered by a reply: it is right by the rules for the two games, a way
+-- that it shows is a shortest, the memory holds the game again, a refusal changes nothing at all, and of the way's bytes only those of the way are written.
 pub record Answered (g : Game) (m : Memory) (s : Beside) (call : Call) (h : Game) (k : Memory) (t : Beside) (reply : Reply) : Type 0 where
   pub right : games.Right (formal g m) (asked call) (replied reply t.way) (formal h k)
+  pub short : Short (formal g m).board (replied reply t.way)
   pub holds : Holds h k
   pub same_size : h.size ≡ g.size
   pub refused : (why : Refusal) → reply ≡ Refused why → (h ≡ g) × (k ≡ m) × (t ≡ s)

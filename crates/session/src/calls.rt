@@ -7,6 +7,7 @@ ghost use Rattle.history.specs.Holds.{won_by};
 ghost use Rattle.history.specs.Played.{winner_of};
 ghost use Rattle.session.specs.Desks.{desk_game, Opened};
 ghost use Rattle.session.specs.Replies.{replied};
+ghost use Rattle.session.specs.Short.{Short};
 ghost use Rattle.session.specs.Told.{told, told_who};
 ghost use Rattle.wire.specs.Formal as formal;
 ghost use Rattle.wire.specs.Formal.{asked};
@@ -90,16 +91,18 @@ impl Desk {
         Ok(self.game.count())
     }
 
-    // Who has connected, and how: the side, and how many cells its way has. `way` then gives them.
+    // Who has connected, and how: the side, and how many cells its way has, a shortest. `way` then gives them.
     pub fn who(&mut self) -> Option<(Side, u16)>
-        ensures { games.Right (desk_game self.old) games.who (told_who result self.new.way.items) (desk_game self.new) }
+        ensures right { games.Right (desk_game self.old) games.who (told_who result self.new.way.items) (desk_game self.new) }
+        ensures short { Short (desk_game self.old).board (told_who result self.new.way.items) }
     {
         who(self.game, &self.stones, &mut self.scratch, &mut self.way)
     }
 
     // Serves a call. If the answer is a way, `way` then gives its cells.
     pub fn serve(&mut self, call: Call) -> Reply
-        ensures { games.Right (desk_game self.old) (asked call) (replied result self.new.way.items) (desk_game self.new) }
+        ensures right { games.Right (desk_game self.old) (asked call) (replied result self.new.way.items) (desk_game self.new) }
+        ensures short { Short (desk_game self.old).board (replied result self.new.way.items) }
     {
         let (game, reply) = serve(
             self.game,

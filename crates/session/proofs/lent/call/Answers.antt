@@ -28,6 +28,7 @@ returns-clause-called c =
       record {
         answer = replied reply way;
         right = right_read _ _ c.args.bytes.now c.in-Ok.call (replied reply way) (sym c.in-Ok.is ∙ c.read_call.ensures.value) c.serve-reply.ensures.right;
+        short = c.serve-reply.ensures.short;
         shown_in =
             served_shown c.args.answer.now way c.show.new.answer reply c.show.result (omega (arith, roomy before, c.serve-reply.ensures.fits)) (way_long before)
             c.serve-reply.ensures.behind c.show.ensures;

@@ -9,6 +9,7 @@ who-requires-clause-long c = stones_long c.args.game (lent c.args.stones.now c.a
 pub returns-in-Some : goal.returns-in-Some
 returns-in-Some c = record {
   right = rw c.in-Who.is (c.in-Some.ensures.right c.args.log.now c.args.parents.now c.args.borders.now c.requires.holds);
+  short = c.in-Some.ensures.short c.args.log.now c.args.parents.now c.args.borders.now c.requires.holds;
   holds = c.requires.holds;
   same_size = refl;
   refused = λ why e. absurd (not_refused_way c.in-Some.side c.in-Some.cells why e);
@@ -20,6 +21,7 @@ returns-in-Some c = record {
 pub returns-in-None : goal.returns-in-None
 returns-in-None c = record {
   right = rw c.in-Who.is (c.in-None.ensures.right c.args.log.now c.args.parents.now c.args.borders.now c.requires.holds);
+  short = tt;
   holds = c.requires.holds;
   same_size = refl;
   refused = λ why e. absurd (not_refused_number 0 why e);

@@ -11,7 +11,7 @@ pub loop-call-preserved : goal.loop-call-preserved
 loop-call-preserved g c =
     heard_more (desk_game c.args.self.now) (desk_game c.loop-call.self) (desk_game c.serve-reply.new.self)
     (g.S.Sink.heard c.args.sink.now) (g.S.Sink.heard c.loop-call.sink) (g.S.Sink.heard c.hear.new.self) c.args.calls.now c.loop-call.call-index _ _ (take_more c.args.calls.now c.loop-call.call-index _ c.loop-call-test.true) c.loop-call.invariant
-    c.serve-reply.ensures
+    c.serve-reply.ensures.right c.serve-reply.ensures.short
     (c.hear.ensures ∙ ap (λ a. g.S.Sink.heard c.loop-call.sink ++ a ∷ []) c.answer.ensures)
 
 pub returns : goal.returns
