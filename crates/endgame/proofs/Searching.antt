@@ -128,7 +128,7 @@ module _ {e : ℕ} {mine theirs : Links} {p : Position} {t u : List ℕ} {must o
         let stands = subst (λ r. Stands b es r (p.mine + 2 ^ k) carrier) back told in
         let wins = win end.numbered s end.side p.mine carrier k (omega (arith, end.many)) out stands in
         let all = forced_more end.numbered s end.side p.mine (bit_or carrier (2 ^ k)) p.free (won_within carrier inside) wins in
-        ((wins, record { of = here; carrier = carrier; stands = stands }), sound_put a s p.mine p.theirs p.free 1 v w node turn written (won refl all) after);
+        ((wins, record { of = here; carrier = carrier; within = smaller carrier inside; stands = stands }), sound_put a s p.mine p.theirs p.free 1 v w node turn written (won refl all) after);
   }
 
 -- At the end nothing must be tried any more.
@@ -158,7 +158,7 @@ told_at_once e mine theirs p t k node c h = record {
   of = λ b es a s end turn apart others sound.
       let (l, out, _) = no_stone node k (c.inside k h) in
       let fits = node.position.mine_fits in
-      ((wins_at_once end k l fits out (c.joins k h), record { of = c.inside k h; carrier = 0; stands = at_once end k l fits out (c.joins k h) }), sound);
+      ((wins_at_once end k l fits out (c.joins k h), record { of = c.inside k h; carrier = 0; within = λ j i. absurd (omega (arith, i, bit_none j)); stands = at_once end k l fits out (c.joins k h) }), sound);
 }
 
 -- What the table knows is told.

@@ -18,12 +18,13 @@ pub one_within : (t x : ℕ) → bit t x ≡ 1 → Within (2 ^ t) x
 one_within t x h k i = rw (one_only t k i) h
 
 -- where nothing is threatened every free cell must be tried
-pub no_threat : (threats free : ℕ) → Replied threats free (record { must = free; lost = 0 })
-no_threat threats free = record { inside = λ k h. h; lost_in = λ k h. absurd (omega (arith, bit_none k)); left = λ k h out. absurd (omega arith) }
+pub no_threat : (threats free : ℕ) → threats ≡ 0 → Replied threats free (record { must = free; lost = 0 })
+no_threat threats free none = record { inside = λ k h. h; meets = λ k t h i. absurd (omega (arith, ap (bit t) none, i, bit_none t)); lost_in = λ k h. absurd (omega (arith, bit_none k)); left = λ k h out. absurd (omega arith) }
 
-pub one_threat : (threats free t : ℕ) → Within threats free → bit t threats ≡ 1 → Replied threats free (record { must = 2 ^ t; lost = 2 ^ t })
-one_threat threats free t w h = record {
+pub one_threat : (threats free t : ℕ) → Within threats free → bit t threats ≡ 1 → threats - 2 ^ t ≡ 0 → Replied threats free (record { must = 2 ^ t; lost = 2 ^ t })
+one_threat threats free t w h none = record {
   inside = λ k i. w k (one_within t threats h k i);
+  meets = λ k u i j. ⊎_elim (λ p. p.0 ∙ sym (one_only t k i)) (λ p. absurd (omega (arith, p.1, j, ap (bit u) none, bit_none u))) (bit_less t threats h u);
   lost_in = one_within t threats h;
   left = λ k i out. (t, (λ same. omega (arith, one_in t, ap (λ j. bit j (2 ^ t)) same)), one_in t);
 }
@@ -34,6 +35,7 @@ two_threats threats free t u h i =
     let (apart, also) = fresh in
     record {
       inside = λ k j. absurd (omega (arith, bit_none k));
+      meets = λ k v j l. absurd (omega (arith, j, bit_none k));
       lost_in = λ k j. ⊎_elim (one_within t threats h k) (one_within u threats also k) (in_or k (2 ^ t) (2 ^ u) j);
       left = λ k j out. ⊎_elim
           (λ same. (u, (λ e. apart (e ∙ sym same)), or_right u (2 ^ t) (2 ^ u) (one_in u)))

@@ -3,7 +3,7 @@ use Rattle.std.specs.Prelude.{◌≡◌, ℕ, suc, ◌+◌, ◌-◌, ◌^◌, �
 use Rattle.hexboard.specs.Board.{Board, at, Connects, put, other}
 use Rattle.hexboard.specs.Games.{Forces}
 use Rattle.hexboard.specs.Promise.{Good}
-use Rattle.ranking.specs.Sets.{bit}
+use Rattle.ranking.specs.Sets.{bit, Within}
 use Rattle.ranking.specs.Positions.{place}
 use Rattle.ranking.specs.Positions.{Position as PositionOf}
 use Rattle.ranking.specs.Table.{entry}
@@ -11,7 +11,11 @@ use Rattle.endgame.specs.declared.links.Links.{Links}
 use Rattle.endgame.specs.declared.search.Found.{Found}
 use Rattle.endgame.specs.declared.search.Found.TheVariants.{Won, Lost}
 use Rattle.endgame.specs.declared.search.Position.{Position}
-use Rattle.endgame.specs.Floods.{Mutual, Joins}
+use Rattle.endgame.specs.declared.search.Cut.{Cut}
+use Rattle.endgame.specs.declared.winner.Winner.TheVariants.{Mover, Other}
+use Rattle.endgame.specs.Floods.{Mutual, Joins, Completes, Completions}
+use Rattle.endgame.specs.Replies.{Replied}
+use Rattle.endgame.specs.Winners.{entry_of}
 
 -- es lists the empty cells of board b, each once
 pub record Numbered (b : Board) (es : List ℕ) : Type 0 where
@@ -76,16 +80,31 @@ pub data Known (b : Board) (es : List ℕ) (s x y free v : ℕ) : Type 0 where
 abbrev pub Sound : ℕ → Board → List ℕ → ℕ → List ℕ → Type 0
 Sound e b es a t = (s x y free : ℕ) → Turn a s x y → Node e x y free → Known b es s x y free (entry t (place e x y))
 
--- the step is a free cell, and with its own stone there side s stands
+-- the step is a free cell, and with its own stone there side s stands, within free cells
 pub record Step (b : Board) (es : List ℕ) (s x free step : ℕ) : Type 0 where
   pub of : bit step free ≡ 1
   pub carrier : ℕ
+  pub within : Within carrier free
   pub stands : Stands b es s (x + 2 ^ step) carrier
 
 -- What the search tells of a node: the side to move wins within the carrier, by the step if one is named; or the other does.
 abbrev pub Told : Board → List ℕ → ℕ → ℕ → ℕ → ℕ → Found → Type 0
 Told b es s x y free (Won carrier step) = Wins b es s x carrier × IfSome step (Step b es s x free)
 Told b es s x y free (Lost carrier) = Stands b es (other s) y carrier
+
+-- A position is decided by looking at it: a stone on a free cell connects, or of the free cells none meets all the other side's threats.
+pub data Seen (mine theirs : Links) (p : Position) : Type 0 where
+  connects : (k : ℕ) → bit k p.free ≡ 1 → Completes mine p.mine k → Seen mine theirs p
+  threatened : (threats : ℕ) (cut : Cut) → Completions theirs p.theirs p.free threats → Replied threats p.free cut → cut.must ≡ 0 → Seen mine theirs p
+
+-- what the table keeps of what is found
+abbrev pub kept_of : Found → ℕ
+kept_of (Won carrier step) = entry_of Mover
+kept_of (Lost carrier) = entry_of Other
+
+-- a position is decided by looking at it, or the table has what was found
+abbrev pub Kept : ℕ → Links → Links → Position → List ℕ → Found → Type 0
+Kept e mine theirs p u f = Seen mine theirs p ⊎ (entry u (place e p.mine p.theirs) ≡ kept_of f)
 
 -- the position after a move, seen by the other side
 abbrev pub moved : Position → ℕ → Position

@@ -3,7 +3,7 @@ ghost use Rattle.std.specs.Prelude.{◌≡◌, ℕ, ◌+◌, ◌-◌, ◌*◌, �
 ghost use Rattle.ranking.specs.Sets.{bit, Within};
 ghost use Rattle.ranking.specs.Positions.{place, total};
 ghost use Rattle.ranking.specs.Table.{entry};
-ghost use Rattle.endgame.specs.Ends.{Node, Tells, moved};
+ghost use Rattle.endgame.specs.Ends.{Node, Tells, Kept, moved};
 ghost use Rattle.endgame.specs.Findings.{carrier_of, StepsInto, NamesStep};
 ghost use Rattle.endgame.specs.Replies.{Replied};
 ghost use Rattle.endgame.specs.Choices.{WeighsBoth, FirstHeaviest};
@@ -123,6 +123,7 @@ pub fn solve(
     ensures stepped { StepsInto result at.free }
     ensures named { entry table.old (place ranking.now.cells at.mine at.theirs) ≡ 0 → NamesStep result }
     ensures tells { Tells ranking.now.cells mine.now theirs.now at table.old table.new result }
+    ensures kept { Kept ranking.now.cells mine.now theirs.now at table.new result }
 {
     if let Some(step) = Cells::of(mine.completions(at.mine, at.free)).next() {
         return Found::Won {

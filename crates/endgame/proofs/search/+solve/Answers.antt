@@ -1,9 +1,9 @@
-use Rattle.std.proofs.Common.{◌≡◌, ℕ, ◌-◌, ◌^◌, ◌<◌, ◌≤◌, sym, ap, ◌∙◌, subst, le_trans, arith, pow_pos, pow_mono}
+use Rattle.std.proofs.Common.{◌≡◌, ℕ, ◌-◌, ◌^◌, ◌<◌, ◌≤◌, sym, ap, ◌∙◌, subst, inl, le_trans, arith, pow_pos, pow_mono}
 use Rattle.ranking.specs.Sets.{bit, Within}
 use Rattle.ranking.proofs.Bits.{within_below, cell_le, cell_below, and_less, left_out}
 use Rattle.ranking.proofs.Members.{members_rest, members_empty}
 use Rattle.ranking.proofs.Ranks.{place_below}
-use Rattle.endgame.specs.Ends.{Tells, moved}
+use Rattle.endgame.specs.Ends.{Tells, connects, threatened, moved}
 use Rattle.endgame.specs.Winners.{entry_of}
 use Rattle.endgame.specs.declared.search.Found.{Found}
 use Rattle.endgame.proofs.Nodes.{node_after}
@@ -37,6 +37,11 @@ returns-in-Some-clause-tells t c =
     rw c.one.ensures
     (told_at_once c.args.ranking.now.cells c.args.mine.now c.args.theirs.now c.args.at c.args.table.now c.in-Some.step c.requires.node c.completions.ensures (first t at).0)
 
+pub returns-in-Some-clause-kept : goal.returns-in-Some-clause-kept
+returns-in-Some-clause-kept t c =
+    let (here, _) = first t (goal.at.returns-in-Some-clause-kept t c).In-Some in
+    inl (connects c.in-Some.step (c.completions.ensures.inside c.in-Some.step here) (c.completions.ensures.joins c.in-Some.step here))
+
 -- against two threats nothing has to be tried
 pub returns-then-cut-eq0-clause-tells : goal.returns-then-cut-eq0-clause-tells
 returns-then-cut-eq0-clause-tells t c =
@@ -46,6 +51,9 @@ returns-then-cut-eq0-clause-tells t c =
     searching_lost c.requires.node
     (subst (λ m. Searching e mine theirs c.args.at c.args.table.now c.args.table.now m c.replies-cut.result.lost) c.if-cut-eq0.true
     (searching_none e mine theirs c.args.at c.args.table.now c.requires.node c.completions-2.ensures c.replies-cut.ensures))
+
+pub returns-then-cut-eq0-clause-kept : goal.returns-then-cut-eq0-clause-kept
+returns-then-cut-eq0-clause-kept t c = inl (threatened c.completions-2.result c.replies-cut.result c.completions-2.ensures c.replies-cut.ensures c.if-cut-eq0.true)
 
 pub get-requires : goal.get-requires
 get-requires t c =

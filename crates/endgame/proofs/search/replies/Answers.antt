@@ -1,6 +1,6 @@
 use Rattle.std.proofs.Common.{◌≡◌, ◌-◌, ◌^◌, ◌<◌, sym, ◌∙◌, arith}
 use Rattle.ranking.specs.Sets.{bit, members}
-use Rattle.ranking.proofs.Members.{members_rest}
+use Rattle.ranking.proofs.Members.{members_rest, members_empty}
 use Rattle.endgame.proofs.Threats.{no_threat, one_threat, two_threats}
 use Rattle.endgame.proofs.search.replies.Goals as goal
 use Rattle.endgame.proofs.search.replies.Goals.{In-Some, In-Some-next}
@@ -15,14 +15,16 @@ second c =
     let (is, small, _) = members_rest (c.args.threats - 2 ^ c.in-Some.threat) c.in-Some-next.another c.next-2.new.self (omega arith) (sym left ∙ c.in-Some-next.ensures.steps) in (is, small)
 
 pub returns-in_default : goal.returns-in_default
-returns-in_default c = no_threat c.args.threats c.args.free
+returns-in_default c = no_threat c.args.threats c.args.free (members_empty c.args.threats (omega arith) (sym c.of-cells.ensures ∙ c.in_default.ensures.steps.0))
 
 pub one-first-requires : goal.one-first-requires
 one-first-requires c = (first (goal.at.one-first-requires c).In-Some).1
 
 pub returns-in_default-next : goal.returns-in_default-next
 returns-in_default-next c =
-    rw c.one-first.ensures (one_threat c.args.threats c.args.free c.in-Some.threat c.requires (first (goal.at.returns-in_default-next c).In-Some).0)
+    let (is, _, left) = first (goal.at.returns-in_default-next c).In-Some in
+    rw c.one-first.ensures
+    (one_threat c.args.threats c.args.free c.in-Some.threat c.requires is (members_empty (c.args.threats - 2 ^ c.in-Some.threat) (omega arith) (sym left ∙ c.in_default-next.ensures.steps.0)))
 
 pub one-requires : goal.one-requires
 one-requires c = (second (goal.at.one-requires c).In-Some-next).1
