@@ -1,4 +1,4 @@
--- The place of a position among all that can arise in an end of a game, with none left out and none shared. Definitions only.
+-- The place of a position among all that can arise in an end of a game. Definitions only.
 use Rattle.std.specs.Prelude.{◌≡◌, ℕ, zero, suc, ◌+◌, ◌-◌, ◌*◌, ◌/◌, ◌%◌, ◌^◌, ◌<◌, cond, ◌⊎◌, ◌==◌, count_ones}
 use Rattle.ranking.specs.Sets.{Apart}
 
@@ -43,3 +43,10 @@ total e = start e (e + 1)
 -- the place of a position: those with fewer stones come first
 unfoldable pub place : ℕ → ℕ → ℕ → ℕ
 place e mine theirs = start e (count_ones mine + count_ones theirs) + rank e mine theirs
+
+-- each position has a place below the number of positions, and shares it with no other
+abbrev pub EachBelow : Type 0
+EachBelow = (e mine theirs : ℕ) → Position e mine theirs → place e mine theirs < total e
+
+abbrev pub NoneShared : Type 0
+NoneShared = (e x y z w : ℕ) → Position e x y → Position e z w → place e x y ≡ place e z w → (x ≡ z) × (y ≡ w)

@@ -1,6 +1,8 @@
 // Positions of an end of a game as sets of bits, each with a place of its own, and a table of two bits for each place.
 #![tactic(auto)]
 
+ghost use Rattle.ranking.specs.Positions.{EachBelow, NoneShared};
+
 mod positions;
 mod sets;
 mod table;
@@ -8,3 +10,10 @@ mod table;
 pub use positions::Ranking;
 pub use sets::{Cells, lowest, one};
 pub use table::{clear, get, put};
+
+// Each position has a place of its own in a table with as many places as there are positions. A law of the definitions alone: there is
+// nothing.
+pub fn positions_have_places()
+    ensures below { EachBelow }
+    ensures once { NoneShared }
+{}

@@ -1,0 +1,5 @@
+use Rattle.ranking.proofs.Ranks.{place_below, place_once}
+use Rattle.ranking.proofs.positions_have_places.Goals as goal
+
+pub returns : goal.returns
+returns c = record { below = place_below; once = place_once }
