@@ -12,7 +12,7 @@ pub use sets::{Cells, lowest, one};
 pub use table::{clear, get, put};
 
 // Each position has a place of its own in a table with as many places as there are positions. A law of the definitions alone: there is
-// nothing.
+// nothing to run.
 pub fn positions_have_places()
     ensures below { EachBelow }
     ensures once { NoneShared }

@@ -34,21 +34,21 @@ run_more none right short = one right short (decided right) none
 run_more (one first brief d rest) right short = one first brief d (run_more rest right short)
 
 -- what was heard: nothing at first,
-pub heard_none : (g : games.Game) (before : List games.Answer) → Heard g [] g before before
-heard_none g before = ([], sym (append-nil before), none)
+pub heard_none : (g : games.Game) (before : List games.Answer → Type 0) → Heard g [] g before before
+heard_none g before = ([], none, (λ earlier h. subst before (sym (append-nil earlier)) h))
 
 -- then an answer more for each call,
-pub heard_more : (g h k : games.Game) (before mid after : List games.Answer) (calls : List Call) (i : ℕ) (call : Call) (a : games.Answer) →
-    take (i + 1) calls ≡ take i calls ++ call ∷ [] → Heard g (take i calls) h before mid → games.Right h (asked call) a k → Short h.board a → after ≡ mid ++ a ∷ [] →
+pub heard_more : (g h k : games.Game) (before mid after : List games.Answer → Type 0) (calls : List Call) (i : ℕ) (call : Call) (a : games.Answer) →
+    take (i + 1) calls ≡ take i calls ++ call ∷ [] → Heard g (take i calls) h before mid → games.Right h (asked call) a k → Short h.board a → ((earlier : List games.Answer) → mid earlier → after (earlier ++ a ∷ [])) →
     Heard g (take (i + 1) calls) k before after
-heard_more g h k before mid after calls i call a more (answers, was, runs) right short now' = (
+heard_more g h k before mid after calls i call a more (answers, runs, on) right short hears = (
   answers ++ a ∷ [],
-  now' ∙ (ap (λ (xs : List games.Answer). xs ++ a ∷ []) was ∙ append_assoc before answers (a ∷ [])),
   subst (λ (cs : List games.Call). Runs g cs (answers ++ a ∷ []) k) (sym (ap (map asked) more ∙ map-append asked (take i calls) (call ∷ []))) (run_more runs right short),
+  (λ earlier was. subst after (append_assoc earlier answers (a ∷ [])) (hears (earlier ++ answers) (on earlier was))),
 )
 
 -- and at the end an answer to each
-pub heard_all : (g h : games.Game) (before after : List games.Answer) (calls : List Call) (i : ℕ) → length calls ≤ i → Heard g (take i calls) h before after → Heard g calls h before after
+pub heard_all : (g h : games.Game) (before after : List games.Answer → Type 0) (calls : List Call) (i : ℕ) → length calls ≤ i → Heard g (take i calls) h before after → Heard g calls h before after
 heard_all g h before after calls i past = subst (λ (cs : List Call). Heard g cs h before after) (take_all i calls past)
 
 module _ (d : promise.Desk) (keeps : KeepsContracts d) where

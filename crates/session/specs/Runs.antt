@@ -16,9 +16,10 @@ pub data Runs : games.Game → List games.Call → List games.Answer → games.G
   one : {g h k : games.Game} {c : games.Call} {a : games.Answer} {cs : List games.Call} {answers : List games.Answer} →
       games.Right g c a h → Short g.board a → (c ≡ games.can_force → empties g.board.cells ≤ 16 → a ≢ games.too_many) → Runs h cs answers k → Runs g (c ∷ cs) (a ∷ answers) k
 
--- the calls of the code were answered so, behind the answers that had been heard before
-abbrev pub Heard : games.Game → List Call → games.Game → List games.Answer → List games.Answer → Type 0
-Heard g calls h before after = (answers : List games.Answer) × (after ≡ before ++ answers) × Runs g (map asked calls) answers h
+-- the calls of the code were answered so, and the answers were heard behind those that had been heard before
+abbrev pub Heard : games.Game → List Call → games.Game → (List games.Answer → Type 0) → (List games.Answer → Type 0) → Type 0
+Heard g calls h before after =
+    (answers : List games.Answer) × Runs g (map asked calls) answers h × ((earlier : List games.Answer) → before earlier → after (earlier ++ answers))
 
 -- A desk of the rules keeps the contracts of opening and calling: its memory is a game by value and the parts that hold it, as those
 -- contracts have them.

@@ -1,8 +1,8 @@
 // Whole lists of calls: each answer is right for the game that the calls before it left.
-ghost use Rattle.std.specs.Prelude.{◌≡◌, ℕ, ◌<◌, ◌≤◌, List, [], ◌∷◌, ◌++◌, IfOk};
+ghost use Rattle.std.specs.Prelude.{◌≡◌, ℕ, ◌<◌, ◌≤◌, List, [], ◌∷◌, ◌++◌, MatchResult};
 ghost use Rattle.hexboard.specs.Games as games;
 ghost use Rattle.wire.specs.Formal.{told};
-ghost use Rattle.session.specs.Desks.{desk_game};
+ghost use Rattle.session.specs.Desks.{desk_game, Opened};
 ghost use Rattle.session.specs.Runs.{Heard, ContractsSuffice};
 
 use crate::desk::Desk;
@@ -12,12 +12,13 @@ use wire::{Answer, Call};
 
 // Where answers go.
 pub trait Sink {
-    // the answers that it was given, the oldest first
-    ghost heard: { Self → List games.Answer };
+    // it was given these answers, the oldest first. A relation, since a sink need not keep all that it is given: one that counts agrees with
+    // every list of so many answers
+    ghost heard: { Self → List games.Answer → Type 0 };
 
     // Takes one more answer.
     fn hear(&mut self, answer: Answer<&[u8]>)
-        ensures { heard self.new ≡ heard self.old ++ (told answer.entry ∷ []) };
+        ensures { (answers : List games.Answer) → heard self.old answers → heard self.new (answers ++ (told answer.entry ∷ [])) };
 }
 
 impl Desk {
@@ -32,9 +33,14 @@ impl Desk {
     }
 }
 
-// A whole game: a new board, n from 1 to 19, and a list of calls. The promise for every n and every list of calls is its contract.
+// A whole game: a new board, n from 1 to 19, and a list of calls. The promise for every n and every list of calls is its contract. If no
+// board is opened nothing is heard.
 pub fn run<S: Sink>(heap: Global, n: u16, calls: &[Call], sink: &mut S) -> Result<Desk, Unopened>
-    ensures { IfOk result (λ d. (0 < n) × (n ≤ 19) × Heard (games.new_game n) calls.now (desk_game d) (S.Sink.heard sink.old) (S.Sink.heard sink.new)) }
+    ensures {
+        MatchResult result
+            (λ d. (0 < n) × (n ≤ 19) × Heard (games.new_game n) calls.now (desk_game d) (S.Sink.heard sink.old) (S.Sink.heard sink.new))
+            (λ why. Opened n (Err why) × (sink.new ≡ sink.old))
+    }
 {
     let mut desk = Desk::open(heap, n)?;
     desk.serve_all(calls, sink);
