@@ -37,6 +37,7 @@ pub record Taken (g : Game) (m : Memory) (scratch bytes old : List ℕ) (h : Gam
   pub short : Short (formal g m).board answer
   pub shown_in : Shown answer old new size
   pub holds : Holds h k
+  pub room : length scratch' ≡ length scratch
   pub same_size : h.size ≡ g.size
   pub refused : Refuses answer → (h ≡ g) × (k ≡ m) × (scratch' ≡ scratch)
 

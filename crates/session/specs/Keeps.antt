@@ -9,9 +9,10 @@ use Rattle.history.specs.Played.{winner_of}
 use Rattle.history.specs.Holds.{won_by, Memory, moves_in}
 use Rattle.history.specs.declared.game.Game.{Game}
 
--- room on a board n wide for the searches and for the cells of a way
+-- Room on a board n wide for the searches and for the cells of a way: just that of the table of an end, which is enough for both searches,
+-- and two bytes a cell.
 abbrev pub Roomy : ℕ → ℕ → ℕ → Type 0
-Roomy n scratch way = (4 * (n * n) ≤ scratch) × (way ≡ 2 * (n * n)) × (bytes_of_table n ≤ scratch)
+Roomy n scratch way = (4 * (n * n) ≤ scratch) × (way ≡ 2 * (n * n)) × (scratch ≡ bytes_of_table n)
 
 -- the moves that are in memory can be made
 abbrev pub Fair : Game → Memory → Type 0

@@ -4,7 +4,7 @@ use Rattle.hexboard.specs.Games as games
 use Rattle.hexboard.specs.Sides.{number}
 use Rattle.hexboard.specs.Words.{words}
 use Rattle.wire.specs.Bytes.{in_bytes}
-use Rattle.wire.specs.Numbers.{Numbered, reason, next_of}
+use Rattle.wire.specs.Numbers.{Numbered, InBytes, reason, next_of}
 use Rattle.wire.specs.declared.answer.Answer.{Answer}
 use Rattle.wire.specs.declared.answer.Answer.TheVariants.{Refused, Number, Way, Yes, No, TooMany}
 
@@ -29,6 +29,15 @@ way_cells (Way side count) = count
 way_cells (Yes cell) = 0
 way_cells No = 0
 way_cells TooMany = 0
+
+-- the bytes of the cells that an answer shows as a way
+abbrev pub way_bytes : InBytes → List ℕ
+way_bytes (Refused why) = []
+way_bytes (Number n) = []
+way_bytes (Way side cells) = cells.now
+way_bytes (Yes cell) = []
+way_bytes No = []
+way_bytes TooMany = []
 
 -- a reply that has bytes: one more than the cell of a yes is a number of two bytes
 abbrev pub HasBytes : Reply → Type 0

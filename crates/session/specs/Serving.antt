@@ -1,6 +1,7 @@
 -- What a call does to a game in lent memory, and what it is answered by.
-use Rattle.std.specs.Prelude.{◌≡◌, ℕ, ◌*◌, ◌≤◌, List, drop}
+use Rattle.std.specs.Prelude.{◌≡◌, ℕ, ◌*◌, ◌≤◌, List, length, take, drop}
 use Rattle.hexboard.specs.Games as games
+use Rattle.hexboard.specs.Words.{words}
 use Rattle.wire.specs.Formal.{asked}
 use Rattle.wire.specs.declared.call.Call.{Call}
 use Rattle.wire.specs.declared.refusal.Refusal.{Refusal}
@@ -34,5 +35,6 @@ pub record Answered (g : Game) (m : Memory) (s : Beside) (call : Call) (h : Game
   pub same_size : h.size ≡ g.size
   pub refused : (why : Refusal) → reply ≡ Refused why → (h ≡ g) × (k ≡ m) × (t ≡ s)
   pub has_bytes : HasBytes reply
+  pub counted : way_cells reply ≡ length (words (take (2 * way_cells reply) t.way))
   pub fits : way_cells reply ≤ g.size.n * g.size.n
   pub behind : drop (2 * way_cells reply) t.way ≡ drop (2 * way_cells reply) s.way

@@ -1,14 +1,15 @@
 // Opening a desk, and its calls. Each answer is right by the rules for the games before and after it.
-ghost use Rattle.std.specs.Prelude.{◌≡◌, ℕ, ◌<◌, ◌≤◌, IfOk, MatchOption, replicate, vec_items};
+ghost use Rattle.std.specs.Prelude.{◌≡◌, ℕ, ◌*◌, ◌<◌, ◌≤◌, length, take, drop, IfOk, MatchOption, replicate, vec_items};
 ghost use Rattle.hexboard.specs.Board.{Connects, empties};
 ghost use Rattle.hexboard.specs.Games as games;
 ghost use Rattle.hexboard.specs.Sides.{number};
+ghost use Rattle.hexboard.specs.Words.{words};
 ghost use Rattle.history.specs.Holds.{won_by};
 ghost use Rattle.history.specs.Played.{winner_of};
 ghost use Rattle.session.specs.Desks.{desk_game, Opened};
-ghost use Rattle.session.specs.Replies.{replied};
+ghost use Rattle.session.specs.Replies.{replied, way_cells, way_bytes};
 ghost use Rattle.session.specs.Short.{Short};
-ghost use Rattle.session.specs.Told.{told, told_who};
+ghost use Rattle.session.specs.Told.{told, told_who, found_cells};
 ghost use Rattle.wire.specs.Formal as formal;
 ghost use Rattle.wire.specs.Formal.{asked};
 
@@ -63,7 +64,8 @@ impl Desk {
 
     // Puts a stone of the side to move on a cell: the move's number, from 0.
     pub fn make_move(&mut self, cell: u16) -> Result<u16, Refusal>
-        ensures { games.Right (desk_game self.old) (games.moves cell) (told result) (desk_game self.new) }
+        ensures right { games.Right (desk_game self.old) (games.moves cell) (told result) (desk_game self.new) }
+        ensures way { self.new.way.items ≡ self.old.way.items }
     {
         let number = self.game.count();
         self.game = history::make_move(
@@ -79,7 +81,8 @@ impl Desk {
 
     // Takes the last move back: how many moves are left.
     pub fn take_back(&mut self) -> Result<u16, Refusal>
-        ensures { games.Right (desk_game self.old) games.back (told result) (desk_game self.new) }
+        ensures right { games.Right (desk_game self.old) games.back (told result) (desk_game self.new) }
+        ensures way { self.new.way.items ≡ self.old.way.items }
     {
         self.game = history::take_back(
             self.game,
@@ -95,6 +98,8 @@ impl Desk {
     pub fn who(&mut self) -> Option<(Side, u16)>
         ensures right { games.Right (desk_game self.old) games.who (told_who result self.new.way.items) (desk_game self.new) }
         ensures short { Short (desk_game self.old).board (told_who result self.new.way.items) }
+        ensures counted { found_cells result ≡ length (words (take (2 * found_cells result) self.new.way.items)) }
+        ensures behind { drop (2 * found_cells result) self.new.way.items ≡ drop (2 * found_cells result) self.old.way.items }
     {
         who(self.game, &self.stones, &mut self.scratch, &mut self.way)
     }
@@ -103,6 +108,8 @@ impl Desk {
     pub fn serve(&mut self, call: Call) -> Reply
         ensures right { games.Right (desk_game self.old) (asked call) (replied result self.new.way.items) (desk_game self.new) }
         ensures short { Short (desk_game self.old).board (replied result self.new.way.items) }
+        ensures counted { way_cells result ≡ length (words (take (2 * way_cells result) self.new.way.items)) }
+        ensures behind { drop (2 * way_cells result) self.new.way.items ≡ drop (2 * way_cells result) self.old.way.items }
     {
         let (game, reply) = serve(
             self.game,
@@ -127,7 +134,8 @@ impl Desk {
 
     // The answer that a reply of this desk is, with the way that was found last if the reply tells one.
     pub fn answer(&self, reply: Reply) -> Answer<&[u8]>
-        ensures { formal.told result ≡ replied reply self.now.way.items }
+        ensures value { formal.told result ≡ replied reply self.now.way.items }
+        ensures bytes { way_bytes result ≡ take (2 * way_cells reply) self.now.way.items }
     {
         with_way(reply, &self.way)
     }

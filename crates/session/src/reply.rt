@@ -1,7 +1,7 @@
 // What a call is answered by, as a value.
-ghost use Rattle.std.specs.Prelude.{◌≡◌};
+ghost use Rattle.std.specs.Prelude.{◌≡◌, ◌*◌, take};
 ghost use Rattle.wire.specs.Formal.{told};
-ghost use Rattle.session.specs.Replies.{replied};
+ghost use Rattle.session.specs.Replies.{replied, way_cells, way_bytes};
 
 use wire::Answer;
 
@@ -11,7 +11,8 @@ pub type Reply = Answer<u16>;
 
 // The answer that a reply is, with the way that stands at the front of these bytes.
 pub fn with_way(reply: Reply, way: &[u8]) -> Answer<&[u8]>
-    ensures { told result ≡ replied reply way.now }
+    ensures value { told result ≡ replied reply way.now }
+    ensures bytes { way_bytes result ≡ take (2 * way_cells reply) way.now }
 {
     match reply {
         Answer::Refused(why) => Answer::Refused(why),

@@ -36,11 +36,9 @@ impl Desk {
 // A whole game: a new board, n from 1 to 19, and a list of calls. The promise for every n and every list of calls is its contract. If no
 // board is opened nothing is heard.
 pub fn run<S: Sink>(heap: Global, n: u16, calls: &[Call], sink: &mut S) -> Result<Desk, Unopened>
-    ensures {
-        MatchResult result
-            (λ d. (0 < n) × (n ≤ 19) × Heard (games.new_game n) calls.now (desk_game d) (S.Sink.heard sink.old) (S.Sink.heard sink.new))
-            (λ why. Opened n (Err why) × (sink.new ≡ sink.old))
-    }
+    ensures { MatchResult result
+        (λ d. (0 < n) × (n ≤ 19) × Heard (games.new_game n) calls.now (desk_game d) (S.Sink.heard sink.old) (S.Sink.heard sink.new))
+        (λ why. Opened n (Err why) × (sink.new ≡ sink.old)) }
 {
     let mut desk = Desk::open(heap, n)?;
     desk.serve_all(calls, sink);

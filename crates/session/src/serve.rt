@@ -1,7 +1,8 @@
 // A call on a game in lent memory: each is answered right by the rules for the games before and after it.
-ghost use Rattle.std.specs.Prelude.{◌≡◌, ℕ, ◌*◌, ◌≤◌, List, length, drop, ◌≢◌};
+ghost use Rattle.std.specs.Prelude.{◌≡◌, ℕ, ◌*◌, ◌≤◌, List, length, take, drop, ◌≢◌};
 ghost use Rattle.hexboard.specs.Board.{Board};
 ghost use Rattle.hexboard.specs.Games as games;
+ghost use Rattle.hexboard.specs.Words.{words};
 ghost use Rattle.history.specs.Holds.{lent, formal, Holds};
 ghost use Rattle.wire.specs.declared.answer.Answer.TheVariants.{Refused};
 ghost use Rattle.verdict.specs.Verdicts.{bytes_of_table};
@@ -60,6 +61,7 @@ pub fn who(game: Game, stones: &[u8], scratch: &mut [u8], way: &mut [u8]) -> Opt
     requires long { length stones.now ≡ game.size.n * game.size.n }
     ensures right { (log parents borders : List ℕ) → Holds game (lent stones.now log parents borders) → games.Right (formal game (lent stones.now log parents borders)) games.who (told_who result way.new) (formal game (lent stones.now log parents borders)) }
     ensures short { (log parents borders : List ℕ) → Holds game (lent stones.now log parents borders) → Short (formal game (lent stones.now log parents borders)).board (told_who result way.new) }
+    ensures counted { found_cells result ≡ length (words (take (2 * found_cells result) way.new)) }
     ensures fits { found_cells result ≤ game.size.n * game.size.n }
     ensures behind { drop (2 * found_cells result) way.new ≡ drop (2 * found_cells result) way.old }
 {

@@ -1,10 +1,12 @@
 // Games played at a desk and in lent memory: what is answered, what is refused first, and that a refusal changes nothing.
-use crate::{Closed, Desk, Parts, Reply, Unopened, call, memory_for, open};
+ghost use Rattle.std.specs.Prelude.{◌≡◌, ◌-◌, ◌^◌, min, length};
+
+use crate::{Closed, Desk, Parts, Reply, Sink, Unopened, call, memory_for, open, run};
 use hexboard::{Side, Size};
 use history::Game;
 use std::alloc::{AllocError, Global};
 use std::test::Fail;
-use wire::{Call, Refusal};
+use wire::{Answer, Call, Refusal};
 
 // Fails the test unless this is so.
 fn check(holds: bool) -> Result<(), Fail> {
@@ -188,4 +190,42 @@ fn one_cell_in_bytes(rt: HostRuntime) -> Result<(), Fail> {
     assert_eq!(rt; written, None);
     assert_eq!(rt; kept_in(heap, &parts)?, before);
     Ok(())
+}
+
+// Counts the answers that it hears.
+#[derive(Drop)]
+struct Count {
+    answers: u64,
+}
+
+impl Sink for Count {
+    ghost heard = { λ count answers. count.answers ≡ min (length answers) (2 ^ 64 - 1) };
+
+    fn hear(&mut self, _answer: Answer<&[u8]>) {
+        self.answers = self.answers.saturating_add(1);
+    }
+}
+
+#[test]
+fn a_list_of_calls(rt: HostRuntime) -> Result<(), Fail> {
+    let mut heard = Count { answers: 0 };
+    let calls = [
+        Call::Move(1),
+        Call::CanForce,
+        Call::Move(2),
+        Call::Move(3),
+        Call::Who,
+    ];
+    let mut desk = run(rt.alloc(), 2, &calls, &mut heard)?;
+    assert_eq!(rt; heard.answers, 5);
+    assert_eq!(rt; desk.who(), Some((Side::One, 2)));
+    Ok(())
+}
+
+#[test]
+fn no_board_and_nothing_heard(rt: HostRuntime) {
+    let mut heard = Count { answers: 0 };
+    let refused = run(rt.alloc(), 20, &[Call::Who], &mut heard).err();
+    assert!(rt; refused == Some(Unopened::Refused(Refusal::BadSize)));
+    assert_eq!(rt; heard.answers, 0);
 }

@@ -7,5 +7,5 @@ use Rattle.driver.proofs.drawing.write_marked_position.Goals as goal
 pub returns : goal.returns
 returns c =
     made_more c.draw.result
-    (λ _ shown. marked _ _ _ _ _ _ c.serve-reply.ensures.right (c.cells_of-way.ensures ∙ ap shown_by c.answer.ensures) shown)
+    (λ _ shown. marked _ _ _ _ _ _ c.serve-reply.ensures.right (c.cells_of-way.ensures ∙ ap shown_by c.answer.ensures.value) shown)
     c.draw.ensures

@@ -33,6 +33,7 @@ returns-clause-called c =
             served_shown c.args.answer.now way c.show.new.answer reply c.show.result (omega (arith, roomy before, c.serve-reply.ensures.fits)) (way_long before)
             c.serve-reply.ensures.behind c.show.ensures;
         holds = c.serve-reply.ensures.holds;
+        room = c.serve-reply.auto.scratch;
         same_size = c.serve-reply.ensures.same_size;
         refused = λ h. let (why, is) = refuses_only reply way h in let (g, m, s) = c.serve-reply.ensures.refused why is in (g, m, ap (λ t. t.scratch) s);
       },

@@ -14,6 +14,7 @@ returns-in-Some c = record {
   same_size = refl;
   refused = λ why e. absurd (not_refused_way c.in-Some.side c.in-Some.cells why e);
   has_bytes = tt;
+  counted = c.in-Some.ensures.counted;
   fits = c.in-Some.ensures.fits;
   behind = c.in-Some.ensures.behind;
 }
@@ -26,6 +27,7 @@ returns-in-None c = record {
   same_size = refl;
   refused = λ why e. absurd (not_refused_number 0 why e);
   has_bytes = tt;
+  counted = c.in-None.ensures.counted;
   fits = c.in-None.ensures.fits;
   behind = c.in-None.ensures.behind;
 }

@@ -13,7 +13,7 @@ loop-call-preserved g c =
     heard_more (desk_game c.args.self.now) (desk_game c.loop-call.self) (desk_game c.serve-reply.new.self)
     (g.S.Sink.heard c.args.sink.now) (g.S.Sink.heard c.loop-call.sink) (g.S.Sink.heard c.hear.new.self) c.args.calls.now c.loop-call.call-index _ _ (take_more c.args.calls.now c.loop-call.call-index _ c.loop-call-test.true) c.loop-call.invariant
     c.serve-reply.ensures.right c.serve-reply.ensures.short
-    (subst (λ a. (earlier : List games.Answer) → g.S.Sink.heard c.loop-call.sink earlier → g.S.Sink.heard c.hear.new.self (earlier ++ a ∷ [])) c.answer.ensures c.hear.ensures)
+    (subst (λ a. (earlier : List games.Answer) → g.S.Sink.heard c.loop-call.sink earlier → g.S.Sink.heard c.hear.new.self (earlier ++ a ∷ [])) c.answer.ensures.value c.hear.ensures)
 
 pub returns : goal.returns
 returns g c = heard_all (desk_game c.args.self.now) (desk_game c.loop-call.self) (g.S.Sink.heard c.args.sink.now) (g.S.Sink.heard c.loop-call.sink) c.args.calls.now c.loop-call.call-index (omega arith) c.loop-call.invariant
