@@ -127,16 +127,17 @@ def judged(copy, crate):
 def told(copy, programs):
     """What each run of these programs gives: its status, its output, and what it tells on standard error, where only times may differ."""
     for program in programs:
-        built = subprocess.run(["rt", "run"], cwd=os.path.join(copy, "crates", program), stdin=subprocess.DEVNULL, capture_output=True, text=True, timeout=600)
-        if not os.path.exists(os.path.join(copy, "crates", program, "out", program)):
-            return [(program, "does not build", built.stderr[-400:])]
-    runs = []
-    for program, arguments, file in RUNS:
-        if program in programs:
-            with open(os.path.join(copy, file), "rb") as given:
-                ran = subprocess.run([os.path.join(copy, "crates", program, "out", program), *arguments], stdin=given, capture_output=True, timeout=120)
-            runs.append((" ".join([program, *arguments, "<", file]), ran.returncode, ran.stdout, re.sub(rb"\d+ ns", b"N ns", ran.stderr)))
-    return runs
+        built = os.path.join(copy, "crates", program, "out", program)
+        if os.path.exists(built):
+            os.remove(built)
+        subprocess.run(["rt", "run"], cwd=os.path.join(copy, "crates", program), stdin=subprocess.DEVNULL, capture_output=True, timeout=600)
+        for called, arguments, file in RUNS:
+            if called == program and os.path.exists(built):
+                with open(os.path.join(copy, file), "rb") as given:
+                    ran = subprocess.run([built, *arguments], stdin=given, capture_output=True, timeout=120)
+                yield " ".join([program, *arguments, "<", file]), ran.returncode, ran.stdout, re.sub(rb"\d+ ns", b"N ns", ran.stderr)
+            elif called == program:
+                yield program, "is not built"
 
 
 def main():
@@ -151,8 +152,8 @@ def main():
         copy = os.path.join(work, "repository")
         shutil.copytree(root, copy, ignore=shutil.ignore_patterns("target"))
         assert judged(copy, asked.crate)[0] == "survived", "the crate is not proved as it is"
-        programs = sorted({program for program, _, _ in RUNS if asked.run and asked.crate in ("programs", program)})
-        right = told(copy, programs)
+        programs = sorted({program for program, _, _ in RUNS if asked.run and asked.crate in ("programs", program)}, reverse=True)
+        right = list(told(copy, programs))
         source = os.path.join(copy, "crates", asked.crate, "src")
         sites = []
         for base, _, names in os.walk(source):
@@ -171,9 +172,9 @@ def main():
             open(path, "w", encoding="utf-8").write("\n".join(lines))
             what, why = judged(copy, asked.crate)
             if what == "survived" and programs:
-                other = [now[0] for now, was in zip(told(copy, programs), right) if now != was]
+                other = next((now[0] for now, was in zip(told(copy, programs), right) if now != was), None)
                 if other:
-                    what, why = "killed", "told by " + other[0]
+                    what, why = "killed", "told by " + other
             open(path, "w", encoding="utf-8").write(text)
             counts[what] += 1
             if what == "skipped":
