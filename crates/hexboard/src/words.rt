@@ -1,5 +1,5 @@
 // Numbers of two bytes each in lent bytes, low byte first.
-ghost use Rattle.std.specs.Prelude.{◌≡◌, ℕ, ◌*◌, ◌<◌, length, drop, slice_set};
+ghost use Rattle.std.specs.Prelude.{◌≡◌, ℕ, ◌*◌, ◌<◌, None, length, drop, slice_set};
 ghost use Rattle.std.specs.Iterator.{YieldsFirst, item_count};
 ghost use Rattle.hexboard.specs.Words.{words, word_of, room_at};
 
@@ -56,6 +56,7 @@ impl Iterator for Words<'_> {
 // `as_chunks_mut` lends nothing is known afterwards.
 pub fn set_word(bytes: &mut [u8], place: u16, value: u16) -> Option<()>
     ensures told { result ≡ room_at bytes.old place }
+    ensures refused { result ≡ None → bytes.new ≡ bytes.old }
     ensures after { words bytes.new ≡ slice_set (words bytes.old) place value }
     ensures behind { (k : ℕ) → place < k → drop (2 * k) bytes.new ≡ drop (2 * k) bytes.old }
 {
