@@ -18,6 +18,7 @@ pub use refusal::{NoRefusal, Refusal};
 mod tests {
     use super::*;
     use hexboard::Side;
+    use std::test::Fail;
 
     #[test]
     fn rows_of_bytes_as_calls(rt: HostRuntime) {
@@ -116,5 +117,17 @@ mod tests {
         assert_eq!(rt; count_cells(&way[0..3]), None);
         assert_eq!(rt; cell_at(&way, 1), Some(260));
         assert_eq!(rt; cell_at(&way[0..3], 1), None);
+    }
+
+    // The line of a number and a place that no refusal has.
+    #[test]
+    fn no_refusals_line(rt: HostRuntime) -> Result<(), Fail> {
+        let heap = rt.alloc();
+        let why = NoRefusal {
+            number: 7,
+            place: 260,
+        };
+        assert!(rt; format!(in heap; "{why}")?.as_str() == "no refusal has number 7 and place 260");
+        Ok(())
     }
 }
