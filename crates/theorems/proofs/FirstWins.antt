@@ -4,6 +4,7 @@ use Rattle.std.proofs.lemmas.Nat.{mul-lt}
 use Rattle.hexboard.specs.Board.{all_cells, empty}
 use Rattle.hexboard.specs.Games.{Forces, mine}
 use Rattle.hexboard.specs.Promise.{Good, good_cells, OneOfBoth, FirstWins, Turned, TurnedOver, NeverALoss}
+use Rattle.theorems.proofs.Stones.{Side}
 use Rattle.theorems.proofs.Better.{never_a_loss_lem}
 use Rattle.theorems.proofs.Mirror.{turned_over_lem}
 use Rattle.theorems.proofs.NotBoth.{not_both}
@@ -47,6 +48,12 @@ first_wins_lem n pos = go (one_of_both_lem (empty n) 1 (good_empty n pos) (inl r
         let on : 0 < length (all_cells (n * n)) = omega (arith, length_all_cells (n * n), mul-lt 0 0 n n pos pos) in
         let z = at_all_cells (n * n) 0 in
         mine 0 on z (never_a_loss_lem (empty n) 1 2 0 (good_empty n pos) (inl refl) (inr refl) on z second)
+
+-- So can the second side, if it is to move: the empty board turned over is the empty board.
+pub mover_wins : (n s : ℕ) → 0 < n → Side s → Forces s (empty n) s
+unfolding FirstWins TurnedOver
+mover_wins n s pos (inl e) = rw e (first_wins_lem n pos)
+mover_wins n s pos (inr e) = rw e (turned_over_lem (empty n) (empty n) 1 1 (good_empty n pos) (turned_empty n) (inl refl) (inl refl) (first_wins_lem n pos))
 
 -- So the second side cannot force it on the empty board.
 pub second_loses : (n : ℕ) → 0 < n → Forces 2 (empty n) 1 → ⊥

@@ -20,9 +20,10 @@ pub fn never_neither()
     ensures lost { (b : Board) (s : ℕ) → Good b → (s ≡ 1) ⊎ (s ≡ 2) → empties b.cells ≡ 0 → (Connects b s → ⊥) → Connects b (other s) }
 {}
 
-// On an empty board the side to move can force that it connects: the other cannot.
+// On an empty board the side to move, whichever it is, can force that it connects: the other cannot.
 pub fn first_wins()
     ensures theorem { FirstWins }
+    ensures mover { (n s : ℕ) → 0 < n → (s ≡ 1) ⊎ (s ≡ 2) → Forces s (empty n) s }
     ensures second { (n : ℕ) → 0 < n → Forces 2 (empty n) 1 → ⊥ }
 {}
 
