@@ -27,10 +27,12 @@ pub fn first_wins()
     ensures second { (n : ℕ) → 0 < n → Forces 2 (empty n) 1 → ⊥ }
 {}
 
-// In every position just one of the two can force that it connects: if a side cannot, the other can.
+// In every position just one of the two can force that it connects: if a side cannot, the other can. By `Forces` play goes on after the
+// other side has connected, which changes nothing: then it cannot be forced any more, as `beaten` says.
 pub fn one_of_both()
     ensures theorem { OneOfBoth }
     ensures decided { (b : Board) (s t : ℕ) → Good b → (s ≡ 1) ⊎ (s ≡ 2) → (t ≡ 1) ⊎ (t ≡ 2) → (Forces s b t → ⊥) → Forces (other s) b t }
+    ensures beaten { (b : Board) (s t : ℕ) → Good b → (s ≡ 1) ⊎ (s ≡ 2) → Connects b (other s) → Forces s b t → ⊥ }
 {}
 
 // A stone more is never a loss, and so neither is to be to move.
