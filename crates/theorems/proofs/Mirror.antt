@@ -1,13 +1,13 @@
 -- Rows and columns exchanged, and the sides: what one side had, the other has.
-use Rattle.std.proofs.Common.{◌≡◌, ℕ, ◌+◌, ◌*◌, ◌/◌, ◌%◌, ◌<◌, true, eqb, length, sym, refl, ap, ◌∙◌, subst, arith}
+use Rattle.std.proofs.Common.{◌≡◌, ℕ, ◌+◌, ◌*◌, ◌/◌, ◌%◌, ◌<◌, true, eqb, List, map, length, sym, refl, ap, ◌∙◌, subst, arith}
 use Rattle.std.proofs.lemmas.Nat.{div_below, mod_below, mul-add-lt, div-mul-add, mod-mul-add, div-add-mod'}
 use Rattle.std.proofs.lemmas.List.{length-set, get_or-set_same, get_or-set_other}
 use Rattle.std.proofs.lemmas.Bool.Decides.{nat_tests}
-use Rattle.hexboard.specs.Board.{pick, Board, at, next_to, begins, ends, Connects, put, other}
+use Rattle.hexboard.specs.Board.{pick, Board, at, next_to, begins, ends, is_way, Connects, put, other}
 use Rattle.hexboard.specs.Games.{Forces, has, mine, theirs}
 use Rattle.hexboard.specs.Promise.{Good, across, Turned, TurnedOver}
 use Rattle.theorems.proofs.Stones.{Side, other_side, set_each, empty_counts, some_empty, good_at, good_put}
-use Rattle.theorems.proofs.Ways.{carried}
+use Rattle.theorems.proofs.Ways.{Carries, carried_way, carried}
 
 -- What a cell across is, written out.
 across_is : (n i : ℕ) → across n i ≡ (i % n) * n + i / n
@@ -107,14 +107,21 @@ module _ (b c : Board) (g : Good b) (m : Turned b c) where
           (λ k apart hk. get_or-set_other c.cells (across b.wide i) (across b.wide k) y 0
           (λ same. apart (across_same b.wide k i g.0 (omega (arith, g.1)) (omega (arith, g.1)) same)) ∙ m.2 k hk)
 
-  -- A way of one side becomes a way of the other.
-  pub turned_connects : (s : ℕ) → Side s → Connects b s → Connects c (other s)
-  turned_connects s side = carried {f = across b.wide} (record {
+  -- What is across from a stone, from a neighbour and from a border of one side is one of the other.
+  turned_carries : (s : ℕ) → Side s → Carries b c s (other s) (across b.wide)
+  turned_carries s side = record {
     stone = λ i h. (across_on_other i h.0, m.2 i h.0 ∙ (ap swapped h.1 ∙ sym (swapped_side s side)));
     next = λ i j hi hj e. rw m.0 (next_across b.wide i j g.0 (omega (arith, g.1)) (omega (arith, g.1)) e);
     first = λ i h e. rw m.0 (begins_across b.wide s i side g.0 (omega (arith, g.1)) e);
     last = λ i h e. rw m.0 (ends_across b.wide s i side g.0 (omega (arith, g.1)) e);
-  })
+  }
+
+  -- A way of one side becomes a way of the other, each cell across.
+  pub turned_way : (s : ℕ) (w : List ℕ) → Side s → is_way b s w ≡ true → is_way c (other s) (map (across b.wide) w) ≡ true
+  turned_way s w side = carried_way (turned_carries s side) w
+
+  turned_connects : (s : ℕ) → Side s → Connects b s → Connects c (other s)
+  turned_connects s side = carried (turned_carries s side)
 
   -- After the other's move on the board turned over: its stone stands across from where it stands on the first board.
   answered : (s i : ℕ) → Side s → i < length c.cells → at c i ≡ 0 →

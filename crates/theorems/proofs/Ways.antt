@@ -56,7 +56,7 @@ module _ {b c : Board} {s r : ℕ} {f : ℕ → ℕ} (over : Carries b c s r f) 
       goes_on_from c r (f i) (f j) (map f js) (over.next i j h p.1.0 p.0) (over.stone j p.1) (carried_on j js p.1.0 p.2)
 
   -- So does the whole way.
-  carried_way : (is : List ℕ) → is_way b s is ≡ true → is_way c r (map f is) ≡ true
+  pub carried_way : (is : List ℕ) → is_way b s is ≡ true → is_way c r (map f is) ≡ true
   unfolding is_way
   carried_way [] e = e
   carried_way (i ∷ is) e =

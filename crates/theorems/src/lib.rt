@@ -2,10 +2,10 @@
 // who plays. The functions have nothing to do; that they are proved is what they are for.
 #![tactic(auto)]
 
-ghost use Rattle.std.specs.Prelude.{◌≡◌, ℕ, ◌<◌, ◌⊎◌};
-ghost use Rattle.hexboard.specs.Board.{Board, Connects, empty, empties, other};
+ghost use Rattle.std.specs.Prelude.{◌≡◌, ℕ, ◌<◌, true, ◌⊎◌, List, map};
+ghost use Rattle.hexboard.specs.Board.{Board, is_way, Connects, empty, empties, other};
 ghost use Rattle.hexboard.specs.Games.{Forces};
-ghost use Rattle.hexboard.specs.Promise.{Good, Turned};
+ghost use Rattle.hexboard.specs.Promise.{Good, across, Turned};
 ghost use Rattle.hexboard.specs.Promise.{NeverBoth, NeverNeither, FirstWins, OneOfBoth, NeverALoss, TurnedOver};
 
 // On no board do both sides connect: who has connected need not look whether the other has.
@@ -41,8 +41,8 @@ pub fn never_a_loss()
     ensures turn { (b : Board) (s : ℕ) → (s ≡ 1) ⊎ (s ≡ 2) → Forces s b (other s) → Forces s b s }
 {}
 
-// With rows and columns exchanged, and the sides, each has what the other had: what it can force, and its ways.
+// With rows and columns exchanged, and the sides, each has what the other had: what it can force, and its ways, each cell across.
 pub fn turned_over()
     ensures theorem { TurnedOver }
-    ensures ways { (b c : Board) (s : ℕ) → Good b → Turned b c → (s ≡ 1) ⊎ (s ≡ 2) → Connects b s → Connects c (other s) }
+    ensures ways { (b c : Board) (s : ℕ) (w : List ℕ) → Good b → Turned b c → (s ≡ 1) ⊎ (s ≡ 2) → is_way b s w ≡ true → is_way c (other s) (map (across b.wide) w) ≡ true }
 {}
