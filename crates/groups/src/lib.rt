@@ -24,10 +24,12 @@ pub struct Groups<'a> {
 }
 
 impl Groups<'_> {
-    // Makes the memory that of a board without stones. Cell by cell, as in `lift`: a parent is a number of two bytes, which `set_word`
+    // Makes the memory that of a board without stones. It has to be as long as the board's groups need. Cell by cell, as in `lift`: a parent is a number of two bytes, which `set_word`
     // writes by its place.
     pub fn clear(self, size: Size)
-        ensures { length self.entry.parents.now ≡ size.n * size.n * 2 → length self.entry.borders.now ≡ size.n * size.n → after self.exit ≡ forest_of size.n [] }
+        requires parents_long { length self.parents.now ≡ size.n * size.n * 2 }
+        requires borders_long { length self.borders.now ≡ size.n * size.n }
+        ensures { after self.exit ≡ forest_of size.n [] }
     {
         let Groups { parents, borders } = self;
         borders.fill(0);

@@ -10,6 +10,6 @@ loop-each-preserved c =
     subst (Cleared (c.loop-each.each + 1)) (sym c.set_word.ensures.after) (cleared_more c.loop-each.each (words c.loop-each.parents) c.loop-each.invariant)
 
 pub returns : goal.returns
-returns c long many =
-    cleared_kept c.args.size.n c.loop-each.each c.loop-each.parents _ (c.loop-each.auto.parents ∙ long)
-    (c.fill.ensures.after (λ y e. e) ∙ all_cells_replicate _ ∙ ap all_cells many) (omega arith) c.loop-each.invariant
+returns c =
+    cleared_kept c.args.size.n c.loop-each.each c.loop-each.parents _ (c.loop-each.auto.parents ∙ c.requires.parents_long)
+    (c.fill.ensures.after (λ y e. e) ∙ all_cells_replicate _ ∙ ap all_cells c.requires.borders_long) (omega arith) c.loop-each.invariant
