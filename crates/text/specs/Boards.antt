@@ -1,5 +1,5 @@
 -- A board and who has won, as text. Definitions only.
-use Rattle.std.specs.Prelude.{◌≡◌, ℕ, zero, suc, ◌+◌, ◌*◌, ◌<◌, Bool, false, ◌||◌, List, [], ◌∷◌, ◌++◌, length, Some, None, codes, Option, ◌==◌, slice_index}
+use Rattle.std.specs.Prelude.{◌≡◌, ℕ, zero, suc, ◌+◌, ◌-◌, ◌*◌, ◌<◌, Bool, false, ◌||◌, List, [], ◌∷◌, ◌++◌, length, Some, None, codes, Option, ◌==◌, slice_index}
 use Rattle.hexboard.specs.Board.{pick}
 use Rattle.hexboard.specs.declared.side.Side.{Side}
 use Rattle.hexboard.specs.declared.side.Side.TheVariants.{One, Two}
@@ -44,12 +44,15 @@ row_line n cells way r = spaces r ++ (row_cells n cells way r ++ codes "\n")
 abbrev pub board_lines : ℕ → List ℕ → List ℕ → List ℕ
 board_lines n cells way = each n (row_line n cells way)
 
--- In the line of row r the cell of column c is the character at place r + 2 * c, and nothing stands behind the last cell but the
--- line's end. So the cell to the right of a cell stands two characters on, the cell below it one on, and that below and to the left
+-- In the line of row r the cell of column c is the character at place r + 2 * c. Before the first cell and between two cells stand
+-- spaces, and nothing stands behind the last cell but the line's end. So the cell to the right of a cell stands two characters on, the cell below it one on, and that below and to the left
 -- one back: cells next to each other on the board are next to each other in the text.
 pub record LaidOut (n : ℕ) (cells way : List ℕ) (r : ℕ) : Type 0 where
   pub long : length (row_line n cells way r) ≡ r + 2 * n
   pub places : (c : ℕ) → c < n → slice_index (row_line n cells way r) (r + 2 * c) ≡ slice_index (mark (slice_index cells (r * n + c)) (among way (r * n + c))) 0
+  pub indent : (k : ℕ) → k < r → slice_index (row_line n cells way r) k ≡ 32
+  pub between : (c : ℕ) → c + 1 < n → slice_index (row_line n cells way r) (r + 2 * c + 1) ≡ 32
+  pub last : slice_index (row_line n cells way r) (r + 2 * n - 1) ≡ 10
 
 abbrev pub RowsLaidOut : Type 0
 RowsLaidOut = (n : ℕ) (cells way : List ℕ) (r : ℕ) → 0 < n → LaidOut n cells way r
