@@ -18,7 +18,7 @@ use Rattle.history.proofs.Serving.{holds_by}
 use Rattle.history.proofs.Turns.{game_back, winner_won, open_before}
 
 -- where nobody has connected nobody has won
-open_none : (n : ℕ) (ms : List ℕ) → Played n ms → Open (board_of n ms) → winner_of n ms ≡ 0
+pub open_none : (n : ℕ) (ms : List ℕ) → Played n ms → Open (board_of n ms) → winner_of n ms ≡ 0
 open_none n ms h free =
     ⊎_elim (λ e. e)
     (λ some.

@@ -1,6 +1,7 @@
 -- One move more, and one move back: what becomes of the game, its board and who has won.
 use Rattle.std.proofs.Common.{◌≡◌, ℕ, ◌%◌, ◌<◌, true, false, eqb, ◌≢◌, ◌⊎◌, List, [], ◌∷◌, ◌++◌, length, get_or, sym, refl, ap, ◌∙◌, subst, inl, inr, ⊎_elim, arith}
 use Rattle.std.proofs.lemmas.List.{length_push, take_at}
+use Rattle.std.proofs.lemmas.Bool.{cases_eq}
 use Rattle.std.proofs.lemmas.Bool.Decides.{nat_tests}
 use Rattle.hexboard.specs.Board.{pick, Connects, put, other}
 use Rattle.hexboard.specs.Games as games
@@ -107,6 +108,15 @@ module _ (n : ℕ) (ms : List ℕ) (x : ℕ) (h : Played n (ms ++ x ∷ [])) whe
       let told : Both byte × (mover ≡ s) = grind (arith, nat_tests) in
       (subst (Connects (board_of n (ms ++ x ∷ []))) told.1 (decides.0.1 told.0), subst (λ t. (t ≡ 1) ⊎ (t ≡ 2)) told.1 mover_side)
 
+  -- The other side has not connected, so if a side has it is the mover.
+  pub pushed_connects : (s : ℕ) → (s ≡ 1) ⊎ (s ≡ 2) → Connects (board_of n (ms ++ x ∷ [])) s → winner_of n (ms ++ x ∷ []) ≡ s
+  pushed_connects s side c =
+      let w = winner_push in
+      ⊎_elim
+      (λ own. let both : Both byte = decides.0.0 (subst (Connects (board_of n (ms ++ x ∷ []))) (sym own) c) in grind (arith, nat_tests))
+      (λ apart. let m = mover_side in let is : s ≡ other mover = omega arith in absurd (decides.1 (subst (Connects (board_of n (ms ++ x ∷ []))) is c)))
+      (cases_eq mover s)
+
 -- where nobody has won nobody has connected
 pub winner_open : (n : ℕ) (ms : List ℕ) → Played n ms → winner_of n ms ≡ 0 → Open (board_of n ms)
 winner_open n ms h e =
@@ -121,4 +131,15 @@ winner_won n ms h s e some =
     ⊎_elim (λ none. absurd (some (sym e ∙ ap (winner_of n) none)))
     (λ l. subst (λ (xs : List ℕ). Connects (board_of n xs) s × ((s ≡ 1) ⊎ (s ≡ 2))) (sym l.2)
     (pushed_won n l.0 l.1 (subst (Played n) l.2 h) s (subst (λ (xs : List ℕ). winner_of n xs ≡ s) l.2 e) some))
+    (by_last ms)
+
+-- and who has connected has won
+pub connects_won : (n : ℕ) (ms : List ℕ) → Played n ms → (s : ℕ) → (s ≡ 1) ⊎ (s ≡ 2) → Connects (board_of n ms) s → winner_of n ms ≡ s
+connects_won n ms h s side c =
+    ⊎_elim
+    (λ none.
+    let at_first : Connects (board_of n []) s = subst (λ (xs : List ℕ). Connects (board_of n xs) s) none c in
+    absurd (⊎_elim (λ e. (open_at_first n).0 (subst (Connects (board_of n [])) e at_first)) (λ e. (open_at_first n).1 (subst (Connects (board_of n [])) e at_first)) side))
+    (λ l. subst (λ (xs : List ℕ). winner_of n xs ≡ s) (sym l.2)
+    (pushed_connects n l.0 l.1 (subst (Played n) l.2 h) s side (subst (λ (xs : List ℕ). Connects (board_of n xs) s) l.2 c)))
     (by_last ms)

@@ -16,7 +16,8 @@ pub record Played (n : ℕ) (ms : List ℕ) : Type 0 where
   pub legal : Legal n ms
   pub before : (k : ℕ) → k < length ms → Open (board_of n (take k ms))
 
--- who has won by the last of the moves, 0 for nobody: the side that made it, if the stone's group touches both borders
+-- who has won by the last of the moves, 0 for nobody: the side that made it, if the stone's group touches both borders.
+-- That is the side that has connected, as `winner_has_connected` promises.
 abbrev pub winner_of : ℕ → List ℕ → ℕ
 winner_of n ms =
     pick (length ms == 0) 0 (pick (slice_index (forest_of n ms).borders (games.last_of 0 ms) % 4 == 3) (other (turn_of n ms)) 0)

@@ -6,5 +6,5 @@ mod laws;
 mod moves;
 
 pub use game::Game;
-pub use laws::moves_tell_every_byte;
+pub use laws::{moves_tell_every_byte, winner_has_connected};
 pub use moves::{make_move, start, take_back};
