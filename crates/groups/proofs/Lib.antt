@@ -9,3 +9,4 @@ pub mod Lifting
 pub mod Positions
 pub mod Theorems
 pub mod Clearing
+pub mod Behind

@@ -7,7 +7,7 @@ ghost use Rattle.hexboard.specs.Sides.{number};
 ghost use Rattle.hexboard.specs.Words.{words};
 ghost use Rattle.groups.specs.Forest.{held, parent, root, join, place, lift};
 ghost use Rattle.groups.specs.Moves.{forest_of};
-ghost use Rattle.groups.specs.Lent.{before, after};
+ghost use Rattle.groups.specs.Lent.{before, after, RestKept};
 ghost use Rattle.groups.specs.Meaning.{Together, Joined, OneByteDecides, BackAgain, KeptOnce};
 ghost use Rattle.groups.specs.Meaning.{OneMore, OneFewer, TellsRows, TellsWinner};
 
@@ -42,6 +42,7 @@ impl Groups<'_> {
     pub fn place(self, size: Size, cells: &[u8], side: Side, cell: u16)
         ensures value { after self.exit ≡ place (laid size.n cells.now) (number side) cell (before self.entry) }
         ensures grows { OneMore size.n cells.now (number side) cell (before self.entry) (after self.exit) }
+        ensures behind { RestKept self.entry self.exit }
     {
         let Groups { parents, borders } = self;
         write(borders, cell, hexboard::borders(size, side, cell));
@@ -57,6 +58,7 @@ impl Groups<'_> {
     pub fn lift(self, size: Size, cell: u16)
         ensures value { after self.exit ≡ lift (size.n * size.n) cell (before self.entry) }
         ensures back { OneFewer size.n cell (before self.entry) (after self.exit) }
+        ensures behind { RestKept self.entry self.exit }
     {
         let Groups { parents, borders } = self;
         write(borders, cell, 0);
@@ -69,7 +71,8 @@ impl Groups<'_> {
 
     // The group of a root hangs from a cell now, which touches what either touched.
     fn join(self, top: u16, cell: u16)
-        ensures { after self.exit ≡ join top cell (before self.entry) }
+        ensures value { after self.exit ≡ join top cell (before self.entry) }
+        ensures behind { RestKept self.entry self.exit }
     {
         let Groups { parents, borders } = self;
         let bits = touched(borders, cell) | touched(borders, top);
