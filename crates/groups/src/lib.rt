@@ -24,8 +24,8 @@ pub struct Groups<'a> {
 }
 
 impl Groups<'_> {
-    // Makes the memory that of a board without stones. It has to be as long as the board's groups need. Cell by cell, as in `lift`: a parent is a number of two bytes, which `set_word`
-    // writes by its place.
+    // Makes the memory that of a board without stones; it has to be as long as the board's groups need. Cell by cell, as in `lift`: a parent
+    // is a number of two bytes, which `set_word` writes by its place.
     pub fn clear(self, size: Size)
         requires parents_long { length self.parents.now ≡ size.n * size.n * 2 }
         requires borders_long { length self.borders.now ≡ size.n * size.n }

@@ -45,8 +45,8 @@ abbrev pub board_lines : ℕ → List ℕ → List ℕ → List ℕ
 board_lines n cells way = each n (row_line n cells way)
 
 -- In the line of row r the cell of column c is the character at place r + 2 * c. Before the first cell and between two cells stand
--- spaces, and nothing stands behind the last cell but the line's end. So the cell to the right of a cell stands two characters on, the cell below it one on, and that below and to the left
--- one back: cells next to each other on the board are next to each other in the text.
+-- spaces, and nothing stands behind the last cell but the line's end. So the cell to the right of a cell stands two characters on, the
+-- cell below it one on, and that below and to the left one back: cells next to each other on the board are next to each other in the text.
 pub record LaidOut (n : ℕ) (cells way : List ℕ) (r : ℕ) : Type 0 where
   pub long : length (row_line n cells way r) ≡ r + 2 * n
   pub places : (c : ℕ) → c < n → slice_index (row_line n cells way r) (r + 2 * c) ≡ slice_index (mark (slice_index cells (r * n + c)) (among way (r * n + c))) 0
