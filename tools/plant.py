@@ -77,10 +77,13 @@ RUNS = [
 
 
 def places(source):
-    """Each line's number with what it becomes."""
-    clause = False
+    """Each line's number with what it becomes. The lines of a text that goes over several are none of code."""
+    clause = text_goes_on = False
     for number, line in enumerate(source.split("\n")):
         text = line.strip()
+        was_text, text_goes_on = text_goes_on, text_goes_on != (line.split("//")[0].replace('\\"', "").count('"') % 2 == 1)
+        if was_text:
+            continue
         if "#[cfg(test)]" in text:
             return
         if text.startswith(("//", "ghost", "use ", "pub use", "#[", "#!", "mod ", "pub mod")):
