@@ -1,3 +1,4 @@
+-- The climb to the root.
 use Rattle.std.proofs.Common.{◌≡◌, ◌-◌}
 use Rattle.hexboard.specs.Words.{words}
 use Rattle.groups.specs.Forest.{climb, root}

@@ -1,3 +1,4 @@
+-- The way is walked back, and its cells so far are written.
 use Rattle.std.proofs.Common.{◌≡◌, ◌-◌, ◌*◌, ◌<◌, drop}
 use Rattle.hexboard.specs.Words.{words}
 use Rattle.paths.specs.Grounds.{ground_of}

@@ -1,3 +1,4 @@
+-- The lines of the kinds so far are written.
 use Rattle.std.proofs.Common.{◌≡◌, ◌++◌, take, string_bytes}
 use Rattle.std.specs.List.{flat_map}
 use Rattle.driver.specs.Timed.{name_of, tally_of, tally_line}

@@ -1,3 +1,4 @@
+-- What is known of the cells that were tried, and that fewer are free after a move and fewer left to try after each.
 use Rattle.endgame.proofs.Searching.{Searching}
 use Rattle.endgame.proofs.search.+solve.Given as goal
 

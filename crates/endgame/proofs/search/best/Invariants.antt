@@ -1,3 +1,4 @@
+-- The best of the cells that were looked at, and that fewer are left with each.
 use Rattle.endgame.specs.Choices.{WeighsBoth}
 use Rattle.endgame.proofs.Choosing.{Choosing}
 use Rattle.endgame.proofs.search.best.Given as goal

@@ -1,3 +1,4 @@
+-- A cell after the other is made its own parent.
 use Rattle.hexboard.specs.Words.{words}
 use Rattle.groups.proofs.Clearing.{Cleared}
 use Rattle.groups.proofs.Groups.clear.Given as goal

@@ -1,3 +1,4 @@
+-- A cell after the other is looked at.
 use Rattle.std.proofs.Common.{◌≡◌}
 use Rattle.hexboard.specs.Words.{words}
 use Rattle.groups.specs.Forest.{free}

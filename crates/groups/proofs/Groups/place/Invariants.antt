@@ -1,3 +1,4 @@
+-- A neighbour after the other is looked at.
 use Rattle.std.proofs.Common.{◌≡◌}
 use Rattle.hexboard.specs.Geometry.{neighbour_of, laid}
 use Rattle.hexboard.specs.Sides.{number}

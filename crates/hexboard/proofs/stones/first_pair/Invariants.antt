@@ -1,3 +1,4 @@
+-- No pair was found so far: of the cell that is looked at with its neighbours so far, and of the cells before it.
 use Rattle.std.proofs.Common.{◌≡◌, None}
 use Rattle.hexboard.specs.Geometry.{neighbour_of, laid}
 use Rattle.hexboard.specs.Stones.{NoPairBelow, NoPairBefore}

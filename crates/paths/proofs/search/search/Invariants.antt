@@ -1,3 +1,4 @@
+-- The search goes on through the queue, and around the cell at its head.
 use Rattle.std.proofs.Common.{◌≡◌, ◌-◌, ◌*◌, None}
 use Rattle.hexboard.specs.Geometry.{neighbour_of}
 use Rattle.hexboard.specs.Words.{words}

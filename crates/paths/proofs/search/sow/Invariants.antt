@@ -1,3 +1,4 @@
+-- The cells of the side at its border, so far, stand in the queue.
 use Rattle.hexboard.specs.Words.{words}
 use Rattle.paths.specs.Grounds.{ground_of, HasRoom}
 use Rattle.paths.proofs.Sources.{Sown}

@@ -1,3 +1,4 @@
+-- The rows so far are written.
 use Rattle.std.proofs.Common.{◌≡◌, ◌++◌, string_bytes}
 use Rattle.hexboard.specs.Words.{words}
 use Rattle.text.specs.Boards.{each, row_line}

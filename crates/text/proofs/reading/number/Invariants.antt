@@ -1,3 +1,4 @@
+-- The number that the bytes so far write.
 use Rattle.text.proofs.Numbers.{Sofar}
 use Rattle.text.proofs.reading.number.Given as goal
 

@@ -1,3 +1,4 @@
+-- The words that were tried so far, and how far the furthest of them went.
 use Rattle.text.proofs.Words.{Tried}
 use Rattle.text.proofs.reading.read_word.Given as goal
 

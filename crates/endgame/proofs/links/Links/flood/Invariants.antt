@@ -1,3 +1,4 @@
+-- The flood over the stones that are left; there are fewer with each.
 use Rattle.endgame.proofs.Flooding.{Flooding}
 use Rattle.endgame.proofs.links.Links.flood.Given as goal
 

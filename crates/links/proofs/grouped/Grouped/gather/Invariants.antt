@@ -1,3 +1,4 @@
+-- A cell after the other is gathered.
 use Rattle.std.proofs.Common.{◌≡◌}
 use Rattle.hexboard.specs.Sides.{number}
 use Rattle.links.specs.Gathering.{gathered}

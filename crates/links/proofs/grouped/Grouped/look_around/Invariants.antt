@@ -1,3 +1,4 @@
+-- A neighbour after the other is looked at.
 use Rattle.hexboard.specs.Geometry.{neighbour_of}
 use Rattle.hexboard.specs.Sides.{number}
 use Rattle.hexboard.proofs.Given.{Upto}

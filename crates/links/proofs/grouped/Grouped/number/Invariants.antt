@@ -1,3 +1,4 @@
+-- A cell after the other is listed if it is empty.
 use Rattle.std.proofs.Common.{◌≡◌, take}
 use Rattle.links.specs.Cells.{free_cells}
 use Rattle.links.proofs.grouped.Grouped.number.Given as goal

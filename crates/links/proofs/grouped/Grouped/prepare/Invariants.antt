@@ -1,3 +1,4 @@
+-- The links of the cells so far are prepared.
 use Rattle.std.proofs.Common.{get_or}
 use Rattle.hexboard.specs.Sides.{number}
 use Rattle.links.specs.Gathering.{near_at, borders_at}

@@ -1,3 +1,4 @@
+-- The starts so far.
 use Rattle.std.proofs.Common.{◌≡◌, ◌+◌, length}
 use Rattle.ranking.specs.Triangle.{Starts}
 use Rattle.ranking.proofs.positions.Ranking.new.Given as goal

@@ -1,3 +1,4 @@
+-- The walk along the cells, and how many positions were passed.
 use Rattle.ranking.proofs.Ranks.{Walked}
 use Rattle.ranking.proofs.positions.Ranking.place.Given as goal
 

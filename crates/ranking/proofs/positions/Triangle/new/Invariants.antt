@@ -1,3 +1,4 @@
+-- The rows of Pascal's triangle so far, and the numbers of the row that is filled.
 use Rattle.ranking.proofs.Rows.{Filled}
 use Rattle.ranking.proofs.positions.Triangle.new.Given as goal
 

@@ -1,3 +1,4 @@
+-- The calls so far were answered, and the answers heard.
 use Rattle.std.proofs.Common.{take}
 use Rattle.session.specs.Desks.{desk_game}
 use Rattle.session.specs.Runs.{Heard}

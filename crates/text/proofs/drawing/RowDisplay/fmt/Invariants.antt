@@ -1,3 +1,4 @@
+-- The cells of the row so far are written.
 use Rattle.std.proofs.Common.{◌++◌}
 use Rattle.std.specs.Fmt.{HasWritten, IsPlainFormatter}
 use Rattle.hexboard.specs.Words.{words}

@@ -1,3 +1,4 @@
+-- The cells so far are written.
 use Rattle.std.specs.Fmt.{HasWritten, IsPlainFormatter}
 use Rattle.std.specs.List.{flat_map}
 use Rattle.wire.specs.Answers.{spaced}
