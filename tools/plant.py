@@ -84,8 +84,6 @@ def places(source):
         was_text, text_goes_on = text_goes_on, text_goes_on != (line.split("//")[0].replace('\\"', "").count('"') % 2 == 1)
         if was_text:
             continue
-        if "#[cfg(test)]" in text:
-            return
         if text.startswith(("//", "ghost", "use ", "pub use", "#[", "#!", "mod ", "pub mod")):
             continue
         if text.startswith(("requires", "ensures")):
@@ -161,7 +159,7 @@ def main():
         sites = []
         for base, _, names in os.walk(source):
             for name in sorted(names):
-                if name.endswith(".rt") and name != "tests.rt":
+                if name.endswith(".rt"):
                     path = os.path.join(base, name)
                     sites += [(path, number, new) for number, new in places(open(path, encoding="utf-8").read())]
         random.Random(asked.seed).shuffle(sites)

@@ -64,17 +64,3 @@ impl fmt::Display for NoSide {
 }
 
 impl Error for NoSide {}
-
-#[cfg(test)]
-mod tests {
-    use super::*;
-    use std::test::Fail;
-
-    #[test]
-    fn no_sides_number(rt: HostRuntime) -> Result<(), Fail> {
-        let heap = rt.alloc();
-        let why = NoSide(30);
-        assert!(rt; format!(in heap; "{why}")?.as_str() == "no side has number 30");
-        Ok(())
-    }
-}

@@ -93,23 +93,3 @@ pub fn first_pair(size: Size, cells: &[u8]) -> Option<(u16, u16)>
     }
     found
 }
-
-#[cfg(test)]
-mod tests {
-    use super::*;
-    use std::test::Fail;
-
-    #[test]
-    fn first_two(rt: HostRuntime) -> Result<(), Fail> {
-        let size = Size::new(3).unwrap();
-        let mut cells = [0; 9];
-        place(&mut cells, Side::One, 8)?;
-        place(&mut cells, Side::Two, 4)?;
-        place(&mut cells, Side::One, 0)?;
-        assert_eq!(rt; first_pair(size, &cells), None);
-        place(&mut cells, Side::Two, 6)?;
-        assert_eq!(rt; first_pair(size, &cells), Some((4, 6)));
-        assert_eq!(rt; count_empty(&cells), 5);
-        Ok(())
-    }
-}

@@ -4,8 +4,6 @@
 mod frontier;
 mod ground;
 mod search;
-#[cfg(test)]
-mod tests;
 
 ghost use Rattle.std.specs.Prelude.{ℕ, ◌*◌, ◌≤◌, length};
 ghost use Rattle.hexboard.specs.Geometry.{laid};

@@ -8,8 +8,6 @@ mod lent;
 mod reply;
 mod runs;
 mod serve;
-#[cfg(test)]
-mod tests;
 mod unopened;
 
 pub use desk::Desk;

@@ -1,0 +1,146 @@
+// Games played at a desk: what is answered, what is refused first, and that a game can be taken back and played otherwise.
+ghost use Rattle.std.specs.Prelude.{◌≡◌, ◌-◌, ◌^◌, min, length};
+
+use hexboard::Side;
+use session::{Desk, Reply, Sink, Unopened, run};
+use std::test::Fail;
+use wire::{Answer, Call, Refusal};
+
+// Fails the test unless this is so.
+fn check(holds: bool) -> Result<(), Fail> {
+    // An `if` reads plainer here than `then_some(())` with `ok_or_else` behind it.
+    if holds {
+        Ok(())
+    } else {
+        Err(Fail::new("not as it should be"))
+    }
+}
+
+#[test]
+fn sizes_out_of_range(rt: HostRuntime) {
+    for n in [0, 20] {
+        let desk = Desk::open(rt.alloc(), n);
+        assert!(rt; matches!(desk, Err(Unopened::Refused(Refusal::BadSize))));
+    }
+}
+
+// Plays the cells in turn, from the first move of the game.
+fn play(desk: &mut Desk, cells: &[u16]) -> Result<(), Fail> {
+    for (number, cell) in (0u16..).zip(cells) {
+        check(desk.make_move(*cell) == Ok(number))?;
+    }
+    Ok(())
+}
+
+// Calls, with what a game on 3 by 3 answers them one after the other, in which each side could have won.
+static GAME: [(Call, Reply); 17] = [
+    (Call::Back, Reply::Refused(Refusal::NoMove)),
+    (Call::Move(9), Reply::Refused(Refusal::NoCell)),
+    (Call::Move(4), Reply::Number(0)),
+    (Call::Move(4), Reply::Refused(Refusal::Taken)),
+    (Call::Move(0), Reply::Number(1)),
+    (Call::Move(8), Reply::Number(2)),
+    (Call::Move(2), Reply::Number(3)),
+    (Call::Move(6), Reply::Number(4)),
+    (Call::Move(3), Reply::Number(5)),
+    (Call::Move(5), Reply::Number(6)),
+    (Call::Who, Reply::Number(0)),
+    (Call::CanForce, Reply::Yes(Some(1))),
+    (Call::Move(1), Reply::Number(7)),
+    (Call::Who, Reply::Way(Side::Two, 3)),
+    (Call::CanForce, Reply::No),
+    (Call::Back, Reply::Number(7)),
+    (Call::Back, Reply::Number(6)),
+];
+
+#[test]
+fn each_side_can_win(rt: HostRuntime) -> Result<(), Fail> {
+    let mut desk = Desk::open(rt.alloc(), 3)?;
+    for (call, reply) in &GAME {
+        assert!(rt; desk.serve(*call) == *reply);
+    }
+    assert!(rt; desk.serve(Call::Move(1)) == Reply::Number(6));
+    assert!(rt; desk.who() == Some((Side::One, 3)));
+    assert!(rt; desk.winner() == Some(Side::One));
+    Ok(())
+}
+
+// On a finished game a cell that is not there comes before the end of the game, and that before a cell that is taken; and no stone
+// comes.
+#[test]
+fn the_first_reason_is_told(rt: HostRuntime) -> Result<(), Fail> {
+    let mut desk = Desk::open(rt.alloc(), 3)?;
+    play(&mut desk, &[4, 0, 1, 2, 6])?;
+    for (cell, why) in [(3, Refusal::Over), (4, Refusal::Over), (9, Refusal::NoCell)] {
+        assert!(rt; desk.make_move(cell) == Err(why));
+        assert!(rt; desk.cells() == [2, 1, 2, 0, 1, 0, 1, 0, 0].as_slice());
+    }
+    Ok(())
+}
+
+// A game of 14 moves on 7 by 7 that side 2 wins by its last, along the fourth row.
+static LONG: [u16; 14] = [0, 21, 1, 22, 2, 23, 3, 24, 4, 25, 5, 26, 6, 27];
+
+// Another on the same board that side 1 wins, down the first column.
+static OTHER: [u16; 13] = [0, 6, 7, 13, 14, 20, 21, 27, 28, 34, 35, 41, 42];
+
+// After every move but the last nobody has connected, and then this side has, by a way of seven cells.
+fn play_to_the_end(desk: &mut Desk, cells: &[u16], winner: Side) -> Result<(), Fail> {
+    for (number, cell) in (0u16..).zip(cells) {
+        check(desk.who() == None)?;
+        check(desk.make_move(*cell) == Ok(number))?;
+    }
+    check(desk.who() == Some((winner, 7)))
+}
+
+// A whole game is taken back move by move, and another played.
+#[test]
+fn a_game_back_to_the_start(rt: HostRuntime) -> Result<(), Fail> {
+    let mut desk = Desk::open(rt.alloc(), 7)?;
+    play_to_the_end(&mut desk, &LONG, Side::Two)?;
+    for left in (0..14).rev() {
+        assert!(rt; desk.take_back() == Ok(left));
+        assert!(rt; desk.winner() == None);
+    }
+    assert!(rt; desk.take_back() == Err(Refusal::NoMove));
+    assert!(rt; desk.cells() == [0; 49].as_slice());
+    play_to_the_end(&mut desk, &OTHER, Side::One)
+}
+
+// Counts the answers that it hears.
+#[derive(Drop)]
+struct Count {
+    answers: u64,
+}
+
+impl Sink for Count {
+    ghost heard = { λ count answers. count.answers ≡ min (length answers) (2 ^ 64 - 1) };
+
+    fn hear(&mut self, _answer: Answer<&[u8]>) {
+        self.answers = self.answers.saturating_add(1);
+    }
+}
+
+#[test]
+fn a_list_of_calls(rt: HostRuntime) -> Result<(), Fail> {
+    let mut heard = Count { answers: 0 };
+    let calls = [
+        Call::Move(1),
+        Call::CanForce,
+        Call::Move(2),
+        Call::Move(3),
+        Call::Who,
+    ];
+    let mut desk = run(rt.alloc(), 2, &calls, &mut heard)?;
+    assert!(rt; heard.answers == 5);
+    assert!(rt; desk.who() == Some((Side::One, 2)));
+    Ok(())
+}
+
+#[test]
+fn no_board_and_nothing_heard(rt: HostRuntime) {
+    let mut heard = Count { answers: 0 };
+    let refused = run(rt.alloc(), 20, &[Call::Who], &mut heard).err();
+    assert!(rt; refused == Some(Unopened::Refused(Refusal::BadSize)));
+    assert!(rt; heard.answers == 0);
+}
