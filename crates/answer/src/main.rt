@@ -1,8 +1,9 @@
 // Answers calls, a line each, as they come: for a person at a terminal or for a file.
 #![tactic(auto)]
 
+use arguments::Program;
 use driver::Limits;
-use programs::{Answers, Program};
+use programs::Answers;
 
 const HELP: &str =
     "answer: reads calls from standard input, a line each, and answers each with a line, at once

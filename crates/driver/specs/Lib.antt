@@ -1,3 +1,4 @@
 pub mod Drawn
+pub mod Leading
 pub mod Served
 pub mod Timed

@@ -53,8 +53,8 @@ answer_is_taken (games.yes next) = Taken
 answer_is_taken games.no = Taken
 answer_is_taken games.too_many = Taken
 
--- a call in game g: its answer is written and right, with h the game afterwards, and a way that it shows is a shortest; or it is too many, and beyond the limits; or it is
--- refused, as the program does not serve it
+-- a call in game g: its answer is written and right, with h the game afterwards, and a way that it shows is a shortest;
+-- or it is too many, and beyond the limits; or it is refused, as the program does not serve it
 abbrev pub Called : Limits → Call → games.Game → games.Game → Served → List ℕ → List ℕ → Type 0
 Called limits call g h served before after =
     ((Unserved limits call → ⊥) × (Beyond limits g call → ⊥) × ((a : games.Answer) × (after ≡ before ++ line_of a) × (served ≡ answer_is_taken a) × games.Right g (asked call) a h × Short g.board a))

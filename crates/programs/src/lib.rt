@@ -1,26 +1,15 @@
-// What the programs share: what the arguments ask for, and the one loop that reads lines and prints answers.
+// What the programs share: the one loop that reads lines and prints answers, as their arguments ask.
 #![tactic(auto)]
 
-mod arguments;
-mod help;
 mod printing;
 
 use anyhow::anyhow;
-use arguments::{Asked, Flag, read_arguments};
+use arguments::{Asked, Flag, Help, Program, read_arguments};
 use driver::{Limits, Times, answer_line, kind_of, write_times};
-use help::Help;
 pub use printing::{Answers, Last, Line, Positions, Printing};
 use std::env;
 use std::io::{BufRead, BufReader};
 use std::time::Instant;
-
-// A program: its name, what --help tells of it alone, and how far it goes.
-#[derive(Clone, Copy)]
-pub struct Program {
-    pub name: &'static str,
-    pub help: &'static str,
-    pub limits: Limits,
-}
 
 // Does what the arguments of a program ask for that takes none but --help.
 pub fn run<P: Printing>(rt: &HostRuntime, program: Program, printing: &P) -> anyhow::Result<()> {

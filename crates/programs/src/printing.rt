@@ -1,7 +1,4 @@
 // What the programs print: for each line, and at the end.
-ghost use Rattle.std.specs.Prelude.{Decides};
-ghost use Rattle.programs.specs.Printed.{LeadsOn};
-
 use driver::{Kind, Served, write_marked_position, write_position};
 use session::Desk;
 use std::fmt::Write;
@@ -12,16 +9,6 @@ pub struct Line {
     pub number: u64,
     pub kind: Option<Kind>,
     pub served: Served,
-}
-
-impl Line {
-    // Whether the line was taken, and opened a board or changed the one there was.
-    fn leads_on(self) -> bool
-        ensures { Decides result (LeadsOn self) }
-    {
-        self.served == Served::Taken
-            && matches!(self.kind, Some(Kind::Board | Kind::Move | Kind::Back))
-    }
 }
 
 // What a program prints.
@@ -75,7 +62,7 @@ impl Printing for Positions {
         out: &mut String,
     ) -> anyhow::Result<()> {
         rt.println(out.as_str())?;
-        if line.leads_on()
+        if line.served.leads_on(line.kind)
             && let Some(desk) = desk
         {
             out.clear();

@@ -1,6 +1,6 @@
 // What the arguments of a program ask for.
 ghost use Rattle.std.specs.Prelude.{◌≡◌, MatchOption, MatchResult, ◌≢◌, map, string_bytes};
-ghost use Rattle.programs.specs.Flags.{written, with_flag, TakenAs, Untaken, AsksForHelp, AsksFor, FirstUntaken};
+ghost use Rattle.arguments.specs.Flags.{written, with_flag, TakenAs, Untaken, AsksForHelp, AsksFor, FirstUntaken};
 
 // An argument.
 #[derive(Clone, Copy, PartialEq, Eq)]

@@ -1,7 +1,7 @@
 -- What --help tells of a program. Definitions only.
 use Rattle.std.specs.Prelude.{ℕ, List, ◌++◌, Some, None, codes, decimal, Option}
-use Rattle.programs.specs.declared.Program.{Program}
-use Rattle.programs.specs.declared.help.TheConstants.{LINES}
+use Rattle.arguments.specs.declared.help.Program.{Program}
+use Rattle.arguments.specs.declared.help.TheConstants.{LINES}
 
 -- how large its boards are, and how long an end it looks through: `Limits: boards from 1 by 1 to 7 by 7; can force with at most 10 empty cells.`
 abbrev pub boards_told : ℕ → List ℕ

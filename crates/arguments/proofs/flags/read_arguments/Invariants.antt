@@ -1,8 +1,8 @@
 -- Of the arguments before the one that is looked at: the program takes each, and which flags are among them is known.
 use Rattle.std.proofs.Common.{map, string_bytes}
-use Rattle.programs.specs.Flags.{TakesFirst}
-use Rattle.programs.proofs.Heard.{Told}
-use Rattle.programs.proofs.arguments.read_arguments.Given as goal
+use Rattle.arguments.specs.Flags.{TakesFirst}
+use Rattle.arguments.proofs.Heard.{Told}
+use Rattle.arguments.proofs.flags.read_arguments.Given as goal
 
 abbrev pub invariant-loop-argument : goal.invariant-loop-argument
 invariant-loop-argument l =

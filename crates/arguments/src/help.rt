@@ -1,12 +1,19 @@
 // What --help tells.
 ghost use Rattle.std.specs.Prelude.{Some};
-ghost use Rattle.programs.specs.Helped.{help_lines};
+ghost use Rattle.arguments.specs.Helped.{help_lines};
 
-use crate::Program;
 use driver::Limits;
 use std::fmt;
 
-// What it tells of the lines, for every program.
+// A program: its name, what --help tells of it alone, and how far it goes.
+#[derive(Clone, Copy)]
+pub struct Program {
+    pub name: &'static str,
+    pub help: &'static str,
+    pub limits: Limits,
+}
+
+// What --help tells of the lines, for every program.
 const LINES: &str = "
 Lines:
   board N      a new board, N wide and N tall: board N

@@ -1,9 +1,9 @@
 use Rattle.std.proofs.Common.{rules, tests, ◌≡◌, ◌≢◌, map, string_bytes, sym, ap, ◌∙◌, arith}
 use Rattle.std.proofs.lemmas.List.{get_or-map}
-use Rattle.programs.specs.declared.arguments.Flag.TheVariants.{Help}
-use Rattle.programs.specs.Flags.{argument_at}
-use Rattle.programs.proofs.Heard.{takes_more, told_more}
-use Rattle.programs.proofs.arguments.read_arguments.Goals as goal
+use Rattle.arguments.specs.declared.flags.Flag.TheVariants.{Help}
+use Rattle.arguments.specs.Flags.{argument_at}
+use Rattle.arguments.proofs.Heard.{takes_more, told_more}
+use Rattle.arguments.proofs.flags.read_arguments.Goals as goal
 
 pub loop-argument-preserved : goal.loop-argument-preserved
 loop-argument-preserved c =

@@ -2,10 +2,10 @@
 use Rattle.std.proofs.Common.{◌≡◌, ◌≢◌, ℕ, ◌+◌, List, Bool, true, refl, sym, ap, ◌∙◌, subst, ⊎_elim, arith}
 use Rattle.std.specs.Prelude.{Decides, slice_index_or}
 use Rattle.std.proofs.lemmas.Bool.{cases_eq}
-use Rattle.programs.specs.declared.arguments.Flag.{Flag}
-use Rattle.programs.specs.declared.arguments.Flag.TheVariants.{Help, Show, Times}
-use Rattle.programs.specs.declared.arguments.Asked.{Asked}
-use Rattle.programs.specs.Flags.{written, with_flag, Takes, Untaken, argument_at, TakesFirst, Among}
+use Rattle.arguments.specs.declared.flags.Flag.{Flag}
+use Rattle.arguments.specs.declared.flags.Flag.TheVariants.{Help, Show, Times}
+use Rattle.arguments.specs.declared.flags.Asked.{Asked}
+use Rattle.arguments.specs.Flags.{written, with_flag, Takes, Untaken, argument_at, TakesFirst, Among}
 
 abbrev third : List ℕ → ℕ
 third xs = slice_index_or xs 2 0

@@ -1,3 +1,2 @@
 pub mod Flags
 pub mod Helped
-pub mod Printed

@@ -1,8 +1,8 @@
 -- The arguments that programs know, and what a row of them asks for. Definitions only.
 use Rattle.std.specs.Prelude.{◌≡◌, ◌≢◌, ℕ, ◌<◌, List, [], length, codes, slice_index_or, true, Contains, Decides}
-use Rattle.programs.specs.declared.arguments.Flag.{Flag}
-use Rattle.programs.specs.declared.arguments.Flag.TheVariants.{Help, Show, Times}
-use Rattle.programs.specs.declared.arguments.Asked.{Asked}
+use Rattle.arguments.specs.declared.flags.Flag.{Flag}
+use Rattle.arguments.specs.declared.flags.Flag.TheVariants.{Help, Show, Times}
+use Rattle.arguments.specs.declared.flags.Asked.{Asked}
 
 -- how an argument is written
 abbrev pub written : Flag → List ℕ

@@ -1,9 +1,9 @@
--- What the programs print. Definitions only.
+-- Which lines lead to another position. Definitions only.
 use Rattle.std.specs.Prelude.{◌≡◌, Some, None, Option, ⊤}
 use Rattle.driver.specs.declared.times.Kind.{Kind}
 use Rattle.driver.specs.declared.times.Kind.TheVariants.{Board, Move, Back, Who, CanForce}
+use Rattle.driver.specs.declared.served.Served.{Served}
 use Rattle.driver.specs.declared.served.Served.TheVariants.{Taken}
-use Rattle.programs.specs.declared.printing.Line.{Line}
 
 -- a line of this kind opens a board, or changes the one there is
 abbrev pub Changing : Option Kind → Type 0
@@ -14,6 +14,6 @@ Changing (Some Who) = ⊥
 Changing (Some CanForce) = ⊥
 Changing None = ⊥
 
--- the line was taken, and leads to another position
-abbrev pub LeadsOn : Line → Type 0
-LeadsOn line = (line.served ≡ Taken) × Changing line.kind
+-- a line of this kind was taken, and leads to another position
+abbrev pub LeadsOn : Option Kind → Served → Type 0
+LeadsOn kind served = (served ≡ Taken) × Changing kind

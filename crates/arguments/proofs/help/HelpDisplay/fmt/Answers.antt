@@ -1,7 +1,7 @@
 use Rattle.std.proofs.Common.{refl, sym, ap}
 use Rattle.std.proofs.Output.{has_written_append, has_written_of_eq}
-use Rattle.programs.specs.Helped.{help_with}
-use Rattle.programs.proofs.help.HelpDisplay.fmt.Goals as goal
+use Rattle.arguments.specs.Helped.{help_with}
+use Rattle.arguments.proofs.help.HelpDisplay.fmt.Goals as goal
 
 pub returns-in-Some-clause-writes : goal.returns-in-Some-clause-writes
 returns-in-Some-clause-writes g c = λ p ok.
