@@ -1,9 +1,8 @@
 // Answers calls, a line each, as they come: for a person at a terminal or for a file.
 #![tactic(auto)]
 
-use arguments::Program;
 use driver::Limits;
-use programs::Answers;
+use programs::{Answers, Program};
 
 const HELP: &str =
     "answer: reads calls from standard input, a line each, and answers each with a line, at once

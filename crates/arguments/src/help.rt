@@ -2,16 +2,7 @@
 ghost use Rattle.std.specs.Prelude.{Some};
 ghost use Rattle.arguments.specs.Helped.{help_lines};
 
-use driver::Limits;
 use std::fmt;
-
-// A program: its name, what --help tells of it alone, and how far it goes.
-#[derive(Clone, Copy)]
-pub struct Program {
-    pub name: &'static str,
-    pub help: &'static str,
-    pub limits: Limits,
-}
 
 // What --help tells of the lines, for every program.
 const LINES: &str = "
@@ -35,19 +26,27 @@ A line that is refused is answered by 'refused R at P', and changes nothing:
 
 ";
 
-// The help of a program: what it tells of itself, the lines, and how far it goes.
+// The help of a program: what it tells of itself, the lines, and how far the program goes: its largest board, and the most empty cells
+// of an end that it looks through, if it looks through any.
 #[derive(Clone, Copy)]
-pub struct Help(pub Program);
+pub struct Help {
+    pub about: &'static str,
+    pub largest: u16,
+    pub ends: Option<u16>,
+}
 
 impl fmt::Display for Help {
-    ghost output = { λ help. Some (help_lines help.0) };
+    ghost output = { λ help. Some (help_lines help) };
 
     fn fmt<W: fmt::Write>(&self, f: &mut fmt::Formatter<W>) -> fmt::Result {
-        let Program { help, limits, .. } = self.0;
-        let Limits { largest, ends } = limits;
+        let Help {
+            about,
+            largest,
+            ends,
+        } = *self;
         write!(
             f,
-            "{help}{LINES}Limits: boards from 1 by 1 to {largest} by {largest}; "
+            "{about}{LINES}Limits: boards from 1 by 1 to {largest} by {largest}; "
         )?;
         match ends {
             Some(ends) => writeln!(f, "can force with at most {ends} empty cells."),

@@ -5,4 +5,4 @@ mod flags;
 mod help;
 
 pub use flags::{Asked, Flag, read_arguments};
-pub use help::{Help, Program};
+pub use help::Help;

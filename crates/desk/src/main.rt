@@ -1,8 +1,8 @@
 // Answers calls as they come, on boards of every size that a desk has: for a person at a terminal or for a file.
 #![tactic(auto)]
 
-use arguments::Program;
 use driver::Limits;
+use programs::Program;
 
 const HELP: &str =
     "desk: reads calls from standard input, a line each, and answers each with a line, at once

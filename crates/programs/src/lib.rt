@@ -3,19 +3,45 @@
 
 mod printing;
 
+ghost use Rattle.std.specs.Prelude.{◌≡◌};
+
 use anyhow::anyhow;
-use arguments::{Asked, Flag, Help, Program, read_arguments};
+use arguments::{Asked, Flag, Help, read_arguments};
 use driver::{Limits, Times, answer_line, kind_of, write_times};
 pub use printing::{Answers, Last, Line, Positions, Printing};
 use std::env;
 use std::io::{BufRead, BufReader};
 use std::time::Instant;
 
+// A program: its name, what --help tells of it alone, and how far it goes.
+#[derive(Clone, Copy)]
+pub struct Program {
+    pub name: &'static str,
+    pub help: &'static str,
+    pub limits: Limits,
+}
+
+impl Program {
+    // What --help tells.
+    fn told(self) -> Help
+        ensures about { result.about ≡ self.help }
+        ensures largest { result.largest ≡ self.limits.largest }
+        ensures ends { result.ends ≡ self.limits.ends }
+    {
+        let Limits { largest, ends } = self.limits;
+        Help {
+            about: self.help,
+            largest,
+            ends,
+        }
+    }
+}
+
 // Does what the arguments of a program ask for that takes none but --help.
 pub fn run<P: Printing>(rt: &HostRuntime, program: Program, printing: &P) -> anyhow::Result<()> {
     match asked(rt, program, &[])? {
         Some(_) => serve_input(rt, program.limits, printing, false),
-        None => Ok(rt.print(&Help(program))?),
+        None => Ok(rt.print(&program.told())?),
     }
 }
 
@@ -24,7 +50,7 @@ pub fn run_with_flags(rt: &HostRuntime, program: Program) -> anyhow::Result<()> 
     match asked(rt, program, &[Flag::Show, Flag::Times])? {
         Some(Asked { show: true, times }) => serve_input(rt, program.limits, &Positions, times),
         Some(Asked { show: false, times }) => serve_input(rt, program.limits, &Answers, times),
-        None => Ok(rt.print(&Help(program))?),
+        None => Ok(rt.print(&program.told())?),
     }
 }
 

@@ -1,9 +1,8 @@
 // Shows the board that calls leave, a line each, at the end of the input.
 #![tactic(auto)]
 
-use arguments::Program;
 use driver::Limits;
-use programs::Last;
+use programs::{Last, Program};
 
 const HELP: &str =
     "show: reads calls from standard input, a line each, and prints the board that they leave and who has won
