@@ -2,9 +2,10 @@
 use Rattle.std.proofs.Common.{◌≡◌, ℕ, zero, suc, ◌+◌, ◌<◌, ◌⊎◌, List, [], ◌∷◌, sym, subst, inl, inr, arith}
 use Rattle.hexboard.specs.Board.{Board, Connects, empties, other}
 use Rattle.hexboard.specs.Promise.{Good, NeverNeither}
+use Rattle.hexboard.proofs.Boards.{other_side, good_set}
 use Rattle.ranking.specs.Sets.{bit}
 use Rattle.ranking.proofs.Bits.{lowest_in, bit_none, in_or_out}
-use Rattle.theorems.proofs.Stones.{Side, EmptyIn, empty_or_full, good_put, other_side}
+use Rattle.theorems.proofs.Stones.{Side, EmptyIn, empty_or_full}
 use Rattle.theorems.proofs.Better.{better_connects}
 use Rattle.theorems.proofs.NeverNeither.{never_neither_lem}
 use Rattle.endgame.specs.declared.links.Links.{Links}
@@ -17,7 +18,7 @@ use Rattle.endgame.proofs.Laying.{laid, laid_better}
 good_lay : (b : Board) (f : ℕ → ℕ) (es : List ℕ) → ((k : ℕ) → f k < 3) → Good b → Good (lay b f es)
 unfolding lay
 good_lay b f [] h g = g
-good_lay b f (e ∷ es) h g = good_put (lay b (λ k. f (suc k)) es) (f 0) e (h 0) (good_lay b (λ k. f (suc k)) es (λ k. h (suc k)) g)
+good_lay b f (e ∷ es) h g = good_set (lay b (λ k. f (suc k)) es) (f 0) e (h 0) (good_lay b (λ k. f (suc k)) es (λ k. h (suc k)) g)
 
 mark_small : (w x c k : ℕ) → Side w → mark w x c k < 3
 mark_small w x c k side = go (in_or_out k x) (in_or_out k c)

@@ -4,12 +4,12 @@ use lib.Bits.{bit_and, bit_or}
 use Rattle.std.proofs.lemmas.Bool.{cases_eq}
 use Rattle.hexboard.specs.Board.{Board, other}
 use Rattle.hexboard.specs.Games.{has}
+use Rattle.hexboard.proofs.Boards.{other_side}
 use Rattle.ranking.specs.Sets.{bit, Within}
 use Rattle.ranking.specs.Positions.{place}
 use Rattle.ranking.specs.Table.{entry, Put}
 use Rattle.ranking.proofs.Ranks.{place_once}
 use Rattle.ranking.proofs.Bits.{bit_one, bit_none, bit_less, more_below, in_and, in_or}
-use Rattle.theorems.proofs.Stones.{other_side}
 use Rattle.endgame.specs.declared.links.Links.{Links}
 use Rattle.endgame.specs.declared.search.Cut.{Cut}
 use Rattle.endgame.specs.declared.search.Found.{Found}

@@ -1,14 +1,14 @@
 -- Positions that legal moves lead to: their forests hold the groups of their boards.
-use Rattle.std.proofs.Common.{◌≡◌, ℕ, zero, suc, ◌+◌, ◌*◌, ◌<◌, true, ◌&&◌, ◌≢◌, ◌⊎◌, List, [], ◌∷◌, ◌++◌, length, get_or, Some, sym, refl, ap, ◌∙◌, subst, inl, inr, ⊎_elim, zero-add, arith}
+use Rattle.std.proofs.Common.{◌≡◌, ℕ, zero, suc, ◌+◌, ◌*◌, ◌<◌, true, ◌&&◌, ◌≢◌, ◌⊎◌, List, [], ◌∷◌, ◌++◌, length, get_or, Some, sym, refl, ap, ◌∙◌, subst, inl, inr, zero-add, arith}
 use mathlib.Core.Bool.{and-true, and_assoc}
 use Rattle.std.proofs.lemmas.List.{length-set, get_or-set_other}
 use Rattle.std.proofs.lemmas.Bool.{and_parts, and_from, both_ways}
 use Rattle.std.proofs.lemmas.Bool.Decides.{nat_tests}
-use Rattle.hexboard.specs.Board.{Board, at, all_cells, empty, put, other, next_to}
+use Rattle.hexboard.specs.Board.{Board, at, empty, put, other, next_to}
 use Rattle.hexboard.specs.Geometry.{neighbour_of, touch, laid}
 use Rattle.hexboard.specs.Promise.{Good}
 use Rattle.hexboard.specs.Rows.{Stone}
-use Rattle.hexboard.proofs.Boards.{length_all_cells, good_set, good_empty}
+use Rattle.hexboard.proofs.Boards.{other_side, length_all_cells, at_all_cells, good_set, good_empty}
 use Rattle.hexboard.proofs.Adjacent.{neighbour_next, neighbour_all, next_symmetric, next_apart}
 use Rattle.groups.specs.Forest.{Forest, parent, place, lift}
 use Rattle.groups.specs.Moves.{Position, count_from, bare, start, moved, played, is_free, is_fair, position_of, board_of, turn_of, forest_of, Legal}
@@ -28,10 +28,6 @@ pub record Sound (p : Position) : Type 0 where
 -- A side is not the number of an empty cell.
 pub no_empty : (s : ℕ) → (s ≡ 1) ⊎ (s ≡ 2) → s ≢ 0
 no_empty s h = grind arith
-
--- The sides take turns.
-pub other_side : (s : ℕ) → (s ≡ 1) ⊎ (s ≡ 2) → (other s ≡ 1) ⊎ (other s ≡ 2)
-other_side s = ⊎_elim (λ e. inr (omega arith)) (λ e. inl (omega arith))
 
 -- What holds of a side and of the other holds of both sides.
 pub of_both : (P : ℕ → Type 0) (s : ℕ) → (s ≡ 1) ⊎ (s ≡ 2) → P s → P (other s) → P 1 × P 2
@@ -76,7 +72,7 @@ module _ (p : Position) (x : ℕ) (ok : Sound p) (is : is_free p.board x ≡ tru
       lifted b p.forest ok.holds s x 6 (touch b.wide s x) (neighbour_of b.wide x) (free_parts b x is).1
       (growing_ends b s x (no_empty s ok.side) on (free_parts b x is).1 ok.holds (next_symmetric b.wide) (neighbour_of b.wide x) (neighbour_next b.wide x))
 
--- Counted up from i, the number at place j is i + j, and no cell of an empty board holds a stone.
+-- Counted up from i, the number at place j is i + j.
 count_at : (i k j : ℕ) → get_or (count_from i k) j (i + j) ≡ i + j
 unfolding count_from
 count_at i zero j = refl
@@ -88,18 +84,12 @@ unfolding count_from
 count_length i zero = refl
 count_length i (suc k) = ap suc (count_length (suc i) k)
 
-pub empty_at : (k i : ℕ) → get_or (all_cells k) i 0 ≡ 0
-unfolding all_cells
-empty_at zero i = refl
-empty_at (suc k) zero = refl
-empty_at (suc k) (suc i) = empty_at k i
-
 -- Where there are no stones each cell is its own root.
 pub bare_parent : (k i : ℕ) → parent (bare k).parents i ≡ i
 bare_parent k i = rw zero-add at (count_at 0 k i)
 
 no_stones : (n t i : ℕ) → t ≢ 0 → Stone (empty n) t i → ⊥
-no_stones n t i side o = side (sym o.1 ∙ empty_at (n * n) i)
+no_stones n t i side o = side (sym o.1 ∙ at_all_cells (n * n) i)
 
 -- The game begins sound,
 pub start_sound : (n : ℕ) → Sound (start n)
@@ -114,7 +104,7 @@ start_sound n =
             ends = λ i. bare_parent (n * n) _;
             hangs = λ t i side o. absurd (no_stones n t i side o);
             meets = λ i j (t, side, o, rest, c). absurd (no_stones n t i side o);
-            lone = λ i e. (bare_parent (n * n) i, empty_at (n * n) i);
+            lone = λ i e. (bare_parent (n * n) i, at_all_cells (n * n) i);
             shows = λ t i k side o h. absurd (no_stones n t i side o);
             seen = λ t i k side o h. absurd (no_stones n t i side o);
           };
@@ -147,7 +137,7 @@ legal_none n = refl
 
 pub nothing_first : (n i : ℕ) → at (board_of n []) i ≡ 0
 unfolding played
-nothing_first n i = empty_at (n * n) i
+nothing_first n i = at_all_cells (n * n) i
 
 -- Of the moves from the empty board: the position is sound, and the last goes to a free cell of the one before.
 pub legal_sound : (n : ℕ) (ms : List ℕ) → Legal n ms → Sound (position_of n ms)

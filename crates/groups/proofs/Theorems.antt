@@ -4,6 +4,7 @@ use Rattle.std.proofs.lemmas.Bool.Decides.{Decides-like, Decides-at, Decides-eqb
 use Rattle.hexboard.specs.Board.{other, Connects}
 use Rattle.hexboard.specs.Geometry.{laid}
 use Rattle.hexboard.proofs.Adjacent.{next_symmetric}
+use Rattle.hexboard.proofs.Boards.{other_side}
 use Rattle.groups.specs.Forest.{Forest, root, place, lift}
 use Rattle.groups.specs.Moves.{Position, start, moved, is_free, position_of, board_of, turn_of, forest_of, Legal, HeldAround}
 use Rattle.groups.specs.Meaning.{JustIf, Both, Together, Joined, Open, OneByteDecides, BackAgain, KeptOnce}
@@ -11,7 +12,7 @@ use Rattle.groups.specs.Meaning.{OneMore, OneFewer, TellsRows, TellsWinner}
 use Rattle.hexboard.proofs.TwoBytes.{same_bytes}
 use Rattle.groups.proofs.Spanning.{same_root, spans, byte_decides, other_as_before}
 use Rattle.groups.proofs.Ways.{connects}
-use Rattle.groups.proofs.Positions.{Sound, no_empty, other_side, of_both, free_parts, moved_top, moved_sound, moved_back}
+use Rattle.groups.proofs.Positions.{Sound, no_empty, of_both, free_parts, moved_top, moved_sound, moved_back}
 use Rattle.groups.proofs.Positions.{legal_none, legal_sound, legal_last, nothing_first, played_push, board_cells, board_laid, board_push, forest_push, place_alike}
 
 -- Each of two statements that hold just if a third does holds just if the other does.

@@ -1,9 +1,9 @@
 -- Boards stay as they can be under a stone put on or taken off, and the empty board is one of them.
-use Rattle.std.proofs.Common.{◌≡◌, ℕ, zero, suc, ◌+◌, ◌*◌, ◌<◌, ◌≤◌, true, eqb, List, [], ◌∷◌, length, get_or, drop, set, replicate, sym, refl, ap, ◌∙◌, arith, lit<}
+use Rattle.std.proofs.Common.{◌≡◌, ℕ, zero, suc, ◌+◌, ◌*◌, ◌<◌, ◌≤◌, true, eqb, ◌⊎◌, List, [], ◌∷◌, length, get_or, drop, set, replicate, sym, refl, ap, ◌∙◌, inl, inr, arith, lit<}
 use Rattle.std.proofs.lemmas.List.{length-set, set-set, set-get_or, at_drop_more, at_drop_all}
 use Rattle.std.proofs.lemmas.Bool.{and_parts, and_from, lt-ltb, ltb-true}
 use Rattle.std.proofs.lemmas.Bool.Decides.{nat_tests}
-use Rattle.hexboard.specs.Board.{Board, pick, at, all_cells, empty, empties, put}
+use Rattle.hexboard.specs.Board.{Board, pick, at, all_cells, empty, empties, put, other}
 use Rattle.hexboard.specs.Promise.{good_cells, Good}
 use Rattle.hexboard.specs.Sides.{number}
 use Rattle.hexboard.specs.declared.side.Side.{Side}
@@ -13,6 +13,11 @@ use Rattle.hexboard.specs.declared.side.Side.TheVariants.{One, Two}
 pub number_few : (s : Side) → (0 < number s) × (number s < 3)
 number_few One = (lit< tt, lit< tt)
 number_few Two = (lit< tt, lit< tt)
+
+-- Who plays against a side is a side.
+pub other_side : (s : ℕ) → (s ≡ 1) ⊎ (s ≡ 2) → (other s ≡ 1) ⊎ (other s ≡ 2)
+other_side s (inl e) = inr (omega arith)
+other_side s (inr e) = inl (omega arith)
 
 -- Cells that are each empty or of a side stay so with one more set.
 pub good_cells_set : (cs : List ℕ) (i s : ℕ) → s < 3 → good_cells cs ≡ true → good_cells (set cs i s) ≡ true
@@ -41,6 +46,12 @@ pub length_all_cells : (n : ℕ) → length (all_cells n) ≡ n
 unfolding all_cells
 length_all_cells zero = refl
 length_all_cells (suc n) = ap suc (length_all_cells n)
+
+pub at_all_cells : (n i : ℕ) → get_or (all_cells n) i 0 ≡ 0
+unfolding all_cells
+at_all_cells zero i = refl
+at_all_cells (suc n) zero = refl
+at_all_cells (suc n) (suc i) = at_all_cells n i
 
 pub all_cells_replicate : (n : ℕ) → replicate n 0 ≡ all_cells n
 unfolding all_cells

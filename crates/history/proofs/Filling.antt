@@ -2,9 +2,10 @@
 use Rattle.std.proofs.Common.{◌≡◌, ℕ, zero, suc, ◌+◌, ◌*◌, ◌%◌, ◌<◌, true, eqb, ◌⊎◌, List, [], ◌∷◌, length, refl, ◌∙◌, inl, arith}
 use Rattle.std.proofs.lemmas.Bool.Decides.{nat_tests}
 use Rattle.hexboard.specs.Board.{pick, all_cells, empties, other}
-use Rattle.theorems.proofs.Stones.{one_fewer, empty_counts}
+use Rattle.hexboard.proofs.Boards.{other_side, empties_set}
+use Rattle.theorems.proofs.Stones.{empty_counts}
 use Rattle.groups.specs.Moves.{Position, start, moved, is_free, is_fair, played, board_of, turn_of, Legal}
-use Rattle.groups.proofs.Positions.{Sound, free_parts, moved_sound, other_side, start_sound, played_wide}
+use Rattle.groups.proofs.Positions.{Sound, free_parts, moved_sound, start_sound, played_wide}
 
 -- so many empty cells are empty
 all_empty : (k : ℕ) → empties (all_cells k) ≡ k
@@ -21,7 +22,7 @@ fewer p (x ∷ ms) ok h =
     let rest : is_fair (moved p x) ms ≡ true = grind (arith, nat_tests) in
     let free = free_parts p.board x is in
     let some : 0 < p.turn = omega (arith, ok.side) in
-    let one = one_fewer p.board.cells x p.turn free.0 free.1 some in
+    let one = empties_set p.board.cells x p.turn free.0 free.1 some in
     omega (arith, fewer (moved p x) ms (moved_sound p x ok is) rest)
 
 -- the cells that are not empty are as many as the moves

@@ -5,7 +5,8 @@ use Rattle.std.proofs.lemmas.Bool.{cases_eq}
 use Rattle.hexboard.specs.Board.{Board, at, empties, put, other}
 use Rattle.hexboard.specs.Games.{Forces, has, mine, theirs}
 use Rattle.hexboard.specs.Promise.{Good, OneOfBoth}
-use Rattle.theorems.proofs.Stones.{Side, Against, against_other, either_way, is_other, turned_about, one_fewer, good_put}
+use Rattle.hexboard.proofs.Boards.{good_set, empties_set}
+use Rattle.theorems.proofs.Stones.{Side, Against, against_other, either_way, is_other, turned_about}
 use Rattle.theorems.proofs.NeverNeither.{never_neither_of}
 use Rattle.theorems.proofs.Numbers.{all_or}
 use Rattle.theorems.proofs.NotBoth.{not_both}
@@ -37,7 +38,7 @@ pub decided : (k : ℕ) (b : Board) (s r : ℕ) → Against s r → Good b → e
 decided zero b s r a g e = ⊎_elim (λ w. inl (has s w)) (λ w. inr (has s w)) (never_neither_of b s r a g e)
 decided (suc k) b s r a g e =
     decided_by_move b s r a (omega arith)
-    (λ i h z. ⊎_swap (decided k (put b s i) r s (turned_about a) (good_put b s i (omega arith) g) (omega (arith, one_fewer b.cells i s h z (omega arith)))))
+    (λ i h z. ⊎_swap (decided k (put b s i) r s (turned_about a) (good_set b s i (omega arith) g) (omega (arith, empties_set b.cells i s h z (omega arith)))))
 
 -- One of both: every position is decided, and not for both.
 pub one_of_both_lem : OneOfBoth

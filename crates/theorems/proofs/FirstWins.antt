@@ -1,35 +1,15 @@
 -- The first one wins: what the second could do on the empty board, the first can do too, with a stone more.
-use Rattle.std.proofs.Common.{◌≡◌, ℕ, zero, suc, ◌*◌, ◌<◌, true, ◌⊎◌, length, get_or, refl, ap, inl, inr, arith}
+use Rattle.std.proofs.Common.{ℕ, ◌*◌, ◌<◌, ◌⊎◌, length, refl, inl, inr, arith}
 use Rattle.std.proofs.lemmas.Nat.{mul-lt}
 use Rattle.hexboard.specs.Board.{all_cells, empty}
 use Rattle.hexboard.specs.Games.{Forces, mine}
-use Rattle.hexboard.specs.Promise.{Good, good_cells, OneOfBoth, FirstWins, Turned, TurnedOver, NeverALoss}
+use Rattle.hexboard.specs.Promise.{OneOfBoth, FirstWins, Turned, TurnedOver, NeverALoss}
+use Rattle.hexboard.proofs.Boards.{length_all_cells, at_all_cells, good_empty}
 use Rattle.theorems.proofs.Stones.{Side}
 use Rattle.theorems.proofs.Better.{never_a_loss_lem}
 use Rattle.theorems.proofs.Mirror.{turned_over_lem}
 use Rattle.theorems.proofs.NotBoth.{not_both}
 use Rattle.theorems.proofs.Decided.{one_of_both_lem}
-
--- The empty board has as many cells as it should, all empty.
-length_all_cells : (k : ℕ) → length (all_cells k) ≡ k
-unfolding all_cells
-length_all_cells zero = refl
-length_all_cells (suc k) = ap suc (length_all_cells k)
-
-at_all_cells : (k i : ℕ) → get_or (all_cells k) i 0 ≡ 0
-unfolding all_cells
-at_all_cells zero i = refl
-at_all_cells (suc k) zero = refl
-at_all_cells (suc k) (suc i) = at_all_cells k i
-
-good_all_cells : (k : ℕ) → good_cells (all_cells k) ≡ true
-unfolding all_cells good_cells
-good_all_cells zero = refl
-good_all_cells (suc k) = good_all_cells k
-
--- So it is a good board.
-pub good_empty : (n : ℕ) → 0 < n → Good (empty n)
-good_empty n pos = (pos, length_all_cells (n * n), good_all_cells (n * n))
 
 -- The empty board turned over is the empty board.
 turned_empty : (n : ℕ) → Turned (empty n) (empty n)

@@ -6,7 +6,8 @@ use Rattle.std.proofs.lemmas.Bool.Decides.{nat_tests}
 use Rattle.hexboard.specs.Board.{pick, Board, at, next_to, begins, ends, is_way, Connects, put, other}
 use Rattle.hexboard.specs.Games.{Forces, has, mine, theirs}
 use Rattle.hexboard.specs.Promise.{Good, across, Turned, TurnedOver}
-use Rattle.theorems.proofs.Stones.{Side, other_side, set_each, empty_counts, some_empty, good_at, good_put}
+use Rattle.hexboard.proofs.Boards.{other_side, good_at, good_set}
+use Rattle.theorems.proofs.Stones.{Side, set_each, empty_counts, some_empty}
 use Rattle.theorems.proofs.Ways.{Carries, carried_way, carried}
 
 -- What a cell across is, written out.
@@ -94,7 +95,7 @@ module _ (b c : Board) (g : Good b) (m : Turned b c) where
       let j = across b.wide i in
       let hj : j < length b.cells = omega (arith, g.1, across_on b.wide i g.0 on) in
       let back = across_twice b.wide i g.0 on in
-      (j, hj, swapped_empty (at b j) (good_at b.cells j g.2) (sym z ∙ (ap (at c) (sym back) ∙ m.2 j hj)), back)
+      (j, hj, swapped_empty (at b j) (good_at b j g) (sym z ∙ (ap (at c) (sym back) ∙ m.2 j hj)), back)
 
   -- A stone put on both boards, here and across, of one side and of the other, leaves them turned over.
   turned_put : (i x y : ℕ) → i < length b.cells → y ≡ swapped x → Turned (put b x i) (put c y (across b.wide i))
@@ -138,11 +139,11 @@ turned : (s : ℕ) → Side s → {b : Board} {t : ℕ} → Forces s b t → (c 
 turned s side {b} (has t w) c g m = has (other t) (turned_connects b c g m s side w)
 turned s side {b} (mine i h z f) c g m =
     mine (across b.wide i) (across_on_other b c g m i h) (across_empty b c g m i h z)
-    (turned s side f (put c (other s) (across b.wide i)) (good_put b s i (omega arith) g) (turned_put b c g m i s (other s) h (swapped_side s side)))
+    (turned s side f (put c (other s) (across b.wide i)) (good_set b s i (omega arith) g) (turned_put b c g m i s (other s) h (swapped_side s side)))
 turned s side {b} (theirs p f) c g m =
     let e = some_empty b.cells p in
     theirs (empty_counts c.cells (across b.wide e.0) (across_on_other b c g m e.0 e.1) (across_empty b c g m e.0 e.1 e.2))
-    (λ i h z. answered b c g m s i side h z (λ j hj zj d l. turned s side (f j hj zj) d (good_put b (other s) j (omega arith) g) l))
+    (λ i h z. answered b c g m s i side h z (λ j hj zj d l. turned s side (f j hj zj) d (good_set b (other s) j (omega arith) g) l))
 
 -- Turned over: with rows and columns exchanged, and the sides, each can force what the other could.
 pub turned_over_lem : TurnedOver

@@ -5,8 +5,9 @@ use Rattle.std.proofs.lemmas.Bool.{eqb-true, false≢true}
 use Rattle.std.proofs.lemmas.Bool.Decides.{nat_tests}
 use Rattle.hexboard.specs.Board.{Board, at, next_to, begins, ends, goes_on, is_way, Connects}
 use Rattle.hexboard.specs.Promise.{Good, NeverBoth}
+use Rattle.hexboard.specs.Rows.{Stone}
 use Rattle.theorems.proofs.Stones.{Against, either_way}
-use Rattle.theorems.proofs.Ways.{Stone, goes_on_parts, way_parts}
+use Rattle.theorems.proofs.Ways.{goes_on_parts, way_parts}
 use Rattle.theorems.proofs.Crossing.{Next, Walk, stop, step, Bottom, Right, crossing}
 
 -- Cells that are next to each other touch.

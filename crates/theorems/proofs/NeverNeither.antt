@@ -5,8 +5,10 @@ use Rattle.std.proofs.lemmas.Nat.{mul-add-lt, div-mul-add, mod-mul-add}
 use Rattle.std.proofs.lemmas.Bool.Decides.{nat_tests}
 use Rattle.hexboard.specs.Board.{Board, at, next_to, begins, ends, goes_on, Connects, empties, other}
 use Rattle.hexboard.specs.Promise.{Good, NeverNeither}
-use Rattle.theorems.proofs.Stones.{Side, Against, against_other, either_way, empty_counts, good_at}
-use Rattle.theorems.proofs.Ways.{Stone, goes_on_from, way_from}
+use Rattle.hexboard.specs.Rows.{Stone}
+use Rattle.hexboard.proofs.Boards.{good_at}
+use Rattle.theorems.proofs.Stones.{Side, Against, against_other, either_way, empty_counts}
+use Rattle.theorems.proofs.Ways.{goes_on_from, way_from}
 use Rattle.theorems.proofs.Cells.{Cell, Near, along}
 use Rattle.theorems.proofs.Line.{On, Led, first, more, Across, one_connects}
 
@@ -54,7 +56,7 @@ module _ (b : Board) (g : Good b) (none : empties b.cells ≡ 0) where
   stone s p on =
       let i = number b.wide p in
       let h : i < length b.cells = omega (arith, g.1, mul-add-lt (p.row - 1) b.wide (p.column - 1) b.wide (omega arith) (omega arith)) in
-      (h, of_side s (at b i) (good_at b.cells i g.2) (λ z. omega (arith, empty_counts b.cells i h z)) on.mine)
+      (h, of_side s (at b i) (good_at b i g) (λ z. omega (arith, empty_counts b.cells i h z)) on.mine)
 
   -- What is led to is a cell of the board.
   end_on : (s : Bool) {p : Cell} → Led b.wide b.wide colour s p → On b.wide b.wide colour s p

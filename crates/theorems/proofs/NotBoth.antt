@@ -4,7 +4,8 @@ use Rattle.std.proofs.lemmas.List.{length-set}
 use Rattle.hexboard.specs.Board.{Board, at, Connects, empties, put, other}
 use Rattle.hexboard.specs.Games.{Forces, has, mine, theirs}
 use Rattle.hexboard.specs.Promise.{Good}
-use Rattle.theorems.proofs.Stones.{Against, turned_about, is_other, set_each, some_empty, good_put}
+use Rattle.hexboard.proofs.Boards.{good_set}
+use Rattle.theorems.proofs.Stones.{Against, turned_about, is_other, set_each, some_empty}
 use Rattle.theorems.proofs.Ways.{carried}
 use Rattle.theorems.proofs.NeverBoth.{never_both_of}
 
@@ -32,10 +33,10 @@ by r (theirs p f) = by_answers refl p f
 -- Against a side that has connected nothing can be forced, however long play goes on.
 pub beaten : (r : ℕ) → {b : Board} {t : ℕ} → Forces r b t → (s : ℕ) → Against s r → Good b → Connects b s → ⊥
 beaten r {b} (has t w) s a g v = never_both_of b s r a g v w
-beaten r {b} (mine i h z f) s a g v = beaten r f s a (good_put b r i (omega arith) g) (still_connects b s i r (omega arith) h z v)
+beaten r {b} (mine i h z f) s a g v = beaten r f s a (good_set b r i (omega arith) g) (still_connects b s i r (omega arith) h z v)
 beaten r {b} (theirs p f) s a g v =
     let m = some_empty b.cells p in
-    beaten r (f m.0 m.1 m.2) s a (good_put b (other r) m.0 (omega arith) g) (still_connects b s m.0 (other r) (omega arith) m.1 m.2 v)
+    beaten r (f m.0 m.1 m.2) s a (good_set b (other r) m.0 (omega arith) g) (still_connects b s m.0 (other r) (omega arith) m.1 m.2 v)
 
 -- The side's move against the other's answers to every move: they meet on the board after that move.
 move_met : (b : Board) (s r i : ℕ) → Against s r → Good b → i < length b.cells → at b i ≡ 0 → Forces s b s →
@@ -57,6 +58,6 @@ answers_met b s r a g f met (by_answers e p k) = omega arith
 pub not_both : (s : ℕ) → {b : Board} {t : ℕ} → Forces s b t → (r : ℕ) → Against s r → Good b → Forces r b t → ⊥
 not_both s {b} (has t w) r a g e = beaten r e s a g w
 not_both s {b} (mine i h z f) r a g e =
-    move_met b s r i a g h z (mine i h z f) (not_both s f r a (good_put b s i (omega arith) g)) (by r e)
+    move_met b s r i a g h z (mine i h z f) (not_both s f r a (good_set b s i (omega arith) g)) (by r e)
 not_both s {b} (theirs p f) r a g e =
-    answers_met b s r a g (theirs p f) (λ i h z. not_both s (f i h z) r a (good_put b (other s) i (omega arith) g)) (by r e)
+    answers_met b s r a g (theirs p f) (λ i h z. not_both s (f i h z) r a (good_set b (other s) i (omega arith) g)) (by r e)

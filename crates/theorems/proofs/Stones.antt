@@ -1,19 +1,13 @@
 -- Stones on a board: the two sides, one cell changed, and empty cells found and counted.
-use Rattle.std.proofs.Common.{◌≡◌, ℕ, zero, suc, ◌<◌, true, ltb, ◌≢◌, ◌⊎◌, List, [], ◌∷◌, length, get_or, set, sym, refl, ◌∙◌, subst₂, inl, inr, ⊎_elim, arith}
-use Rattle.std.proofs.lemmas.List.{length-set, get_or-set_same, get_or-set_other}
-use Rattle.std.proofs.lemmas.Bool.{cases_eq, and_parts, and_from, lt-ltb}
+use Rattle.std.proofs.Common.{◌≡◌, ℕ, zero, suc, ◌<◌, ◌≢◌, ◌⊎◌, List, [], ◌∷◌, length, get_or, set, sym, refl, subst₂, inl, inr, ⊎_elim, arith}
+use Rattle.std.proofs.lemmas.List.{get_or-set_same, get_or-set_other}
+use Rattle.std.proofs.lemmas.Bool.{cases_eq}
 use Rattle.std.proofs.lemmas.Bool.Decides.{nat_tests}
-use Rattle.hexboard.specs.Board.{Board, empties, put, other}
-use Rattle.hexboard.specs.Promise.{good_cells, Good}
+use Rattle.hexboard.specs.Board.{empties, other}
 
 -- the two that play
 abbrev pub Side : ℕ → Type 0
 Side s = (s ≡ 1) ⊎ (s ≡ 2)
-
--- Who plays against a side is a side.
-pub other_side : (s : ℕ) → Side s → Side (other s)
-other_side s (inl e) = inr (omega arith)
-other_side s (inr e) = inl (omega arith)
 
 -- r plays against s
 abbrev pub Against : ℕ → ℕ → Type 0
@@ -66,30 +60,3 @@ empty_or_full (suc x ∷ l) = ⊎_elim (λ s. inl (suc s.0, omega arith, s.2)) (
 -- Where some are counted, here is one.
 pub some_empty : (l : List ℕ) → 0 < empties l → EmptyIn l
 some_empty l h = ⊎_elim (λ s. s) (λ e. absurd (omega arith)) (empty_or_full l)
-
--- On a good board each cell is empty or of a side, and a cell past the last counts as empty.
-pub good_at : (l : List ℕ) (k : ℕ) → good_cells l ≡ true → get_or l k 0 < 3
-unfolding good_cells
-good_at [] k e = omega arith
-good_at (x ∷ l) zero e = grind (arith, nat_tests)
-good_at (x ∷ l) (suc k) e = good_at l k (and_parts (ltb x 3) (good_cells l) e).1
-
--- So it stays when one is changed.
-good_set : (l : List ℕ) (i x : ℕ) → x < 3 → good_cells l ≡ true → good_cells (set l i x) ≡ true
-unfolding good_cells
-good_set [] i x h e = e
-good_set (y ∷ l) zero x h e = and_from (ltb x 3) (good_cells l) (lt-ltb x 3 h) (and_parts (ltb y 3) (good_cells l) e).1
-good_set (y ∷ l) (suc i) x h e =
-    let p = and_parts (ltb y 3) (good_cells l) e in
-    and_from (ltb y 3) (good_cells (set l i x)) p.0 (good_set l i x h p.1)
-
--- A good board stays good when a cell is emptied or given to a side.
-pub good_put : (b : Board) (x i : ℕ) → x < 3 → Good b → Good (put b x i)
-good_put b x i h g = (g.0, length-set b.cells i x ∙ g.1, good_set b.cells i x h g.2)
-
--- A stone on an empty place: one empty place fewer.
-pub one_fewer : (l : List ℕ) (i x : ℕ) → i < length l → get_or l i 0 ≡ 0 → 0 < x → empties l ≡ suc (empties (set l i x))
-unfolding empties
-one_fewer [] i x h z p = omega arith
-one_fewer (y ∷ l) zero x h z p = grind (arith, nat_tests)
-one_fewer (y ∷ l) (suc i) x h z p = let r = one_fewer l i x (omega arith) z p in omega arith

@@ -2,10 +2,7 @@
 use Rattle.std.proofs.Common.{◌≡◌, ℕ, ◌<◌, Bool, true, ◌&&◌, eqb, ltb, List, [], ◌∷◌, map, length, arith}
 use Rattle.std.proofs.lemmas.Bool.Decides.{nat_tests}
 use Rattle.hexboard.specs.Board.{Board, at, next_to, begins, ends, goes_on, is_way, Connects}
-
--- cell i is on board b, and a stone of side s stands on it
-abbrev pub Stone : Board → ℕ → ℕ → Type 0
-Stone b s i = (i < length b.cells) × (at b i ≡ s)
+use Rattle.hexboard.specs.Rows.{Stone}
 
 -- the test that a way makes of each of its cells: a first thing, the stone, and the rest of the way
 abbrev steps : Board → ℕ → ℕ → Bool → Bool → Bool

@@ -1,10 +1,11 @@
 -- The answer on a position that moves lead to, from what the search tells of its end.
 use Rattle.std.proofs.Common.{◌≡◌, ℕ, Some, List, length, get_or, sym, ap, ◌∙◌, subst, inl, inr}
 use Rattle.hexboard.specs.Board.{Board, Connects, other}
+use Rattle.hexboard.proofs.Boards.{other_side}
 use Rattle.groups.specs.Meaning.{Open}
 use Rattle.groups.specs.Moves.{board_of, Legal, Kept}
 use Rattle.groups.proofs.Positions.{board_good}
-use Rattle.theorems.proofs.Stones.{Side, other_side}
+use Rattle.theorems.proofs.Stones.{Side}
 use Rattle.endgame.specs.declared.links.Links.{Links}
 use Rattle.links.specs.declared.grouped.Grouped.{Grouped}
 use Rattle.links.specs.Cells.{zeros_from, Lists}

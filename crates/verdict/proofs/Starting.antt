@@ -5,6 +5,7 @@ use Rattle.std.proofs.lemmas.Bool.Decides.{nat_tests}
 use Rattle.hexboard.specs.Board.{pick, Board, at, Connects, put, other}
 use Rattle.hexboard.specs.Games.{Forces}
 use Rattle.hexboard.specs.Promise.{Good}
+use Rattle.hexboard.proofs.Boards.{other_side}
 use Rattle.ranking.specs.Positions.{choose, count, start, total, place}
 use Rattle.ranking.specs.Sets.{bit}
 use Rattle.ranking.specs.Table.{entry}
@@ -12,7 +13,7 @@ use Rattle.ranking.proofs.Bits.{bit_none, bit_more, in_or_out, cell_below}
 use Rattle.ranking.proofs.Ranks.{total_wider, total_most}
 use Rattle.theorems.proofs.Better.{Up}
 use Rattle.theorems.proofs.NotBoth.{not_both}
-use Rattle.theorems.proofs.Stones.{Side, other_side, against_other}
+use Rattle.theorems.proofs.Stones.{Side, against_other}
 use Rattle.endgame.specs.declared.links.Links.{Links}
 use Rattle.endgame.specs.Ends.{Numbered}
 use Rattle.endgame.specs.Floods.{Joins}

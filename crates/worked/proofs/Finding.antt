@@ -3,8 +3,9 @@ use Rattle.std.proofs.Common.{◌≡◌, ℕ, zero, suc, ◌+◌, ◌<◌, ◌�
 use Rattle.std.proofs.lemmas.List.{length-set, get_or-set_same, get_or-set_other, set-set, set-get_or}
 use Rattle.std.proofs.lemmas.Bool.{false≢true, and_parts, and_from, or_cases, or_left, or_right, eqb-true, eq-eqb, cases_eq}
 use Rattle.hexboard.specs.Board.{Board, at, next_to, begins, ends, goes_on, is_way, Connects, empties, put}
+use Rattle.hexboard.specs.Rows.{Stone}
 use Rattle.hexboard.proofs.Boards.{empties_few, empties_set}
-use Rattle.theorems.proofs.Ways.{Stone, goes_on_parts, goes_on_from, way_parts, way_from}
+use Rattle.theorems.proofs.Ways.{goes_on_parts, goes_on_from, way_parts, way_from}
 use Rattle.worked.specs.Search.{some_below, finds, finds_way}
 
 -- A test that holds of a number below n holds of some,
