@@ -1,11 +1,11 @@
 -- The first one wins: what the second could do on the empty board, the first can do too, with a stone more.
 use Rattle.std.proofs.Common.{ℕ, ◌*◌, ◌<◌, ◌⊎◌, length, refl, inl, inr, arith}
 use Rattle.std.proofs.lemmas.Nat.{mul-lt}
-use Rattle.hexboard.specs.Board.{all_cells, empty}
+use Rattle.hexboard.specs.Board.{all_cells, empty, other}
 use Rattle.hexboard.specs.Games.{Forces, mine}
 use Rattle.hexboard.specs.Promise.{OneOfBoth, FirstWins, Turned, TurnedOver, NeverALoss}
 use Rattle.hexboard.proofs.Boards.{length_all_cells, at_all_cells, good_empty}
-use Rattle.theorems.proofs.Stones.{Side}
+use Rattle.theorems.proofs.Stones.{Side, against_other, turned_about}
 use Rattle.theorems.proofs.Better.{never_a_loss_lem}
 use Rattle.theorems.proofs.Mirror.{turned_over_lem}
 use Rattle.theorems.proofs.NotBoth.{not_both}
@@ -35,7 +35,6 @@ unfolding FirstWins TurnedOver
 mover_wins n s pos (inl e) = rw e (first_wins_lem n pos)
 mover_wins n s pos (inr e) = rw e (turned_over_lem (empty n) (empty n) 1 1 (good_empty n pos) (turned_empty n) (inl refl) (inl refl) (first_wins_lem n pos))
 
--- So the second side cannot force it on the empty board.
-pub second_loses : (n : ℕ) → 0 < n → Forces 2 (empty n) 1 → ⊥
-unfolding FirstWins
-second_loses n pos f = not_both 2 f 1 (inr (refl, refl)) (good_empty n pos) (first_wins_lem n pos)
+-- So whoever is not to move on the empty board cannot force it.
+pub second_loses : (n s : ℕ) → 0 < n → Side s → Forces (other s) (empty n) s → ⊥
+second_loses n s pos side f = not_both (other s) f s (turned_about (against_other s side)) (good_empty n pos) (mover_wins n s pos side)

@@ -24,7 +24,7 @@ pub fn never_neither()
 pub fn first_wins()
     ensures theorem { FirstWins }
     ensures mover { (n s : ℕ) → 0 < n → (s ≡ 1) ⊎ (s ≡ 2) → Forces s (empty n) s }
-    ensures second { (n : ℕ) → 0 < n → Forces 2 (empty n) 1 → ⊥ }
+    ensures second { (n s : ℕ) → 0 < n → (s ≡ 1) ⊎ (s ≡ 2) → Forces (other s) (empty n) s → ⊥ }
 {}
 
 // In every position just one of the two can force that it connects: if a side cannot, the other can. By `Forces` play goes on after the
