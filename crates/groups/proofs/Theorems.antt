@@ -1,7 +1,7 @@
 -- What groups mean, proved for every legal list of moves.
-use Rattle.std.proofs.Common.{◌≡◌, ℕ, ◌*◌, ◌%◌, Bool, true, eqb, ◌≢◌, ◌⊎◌, List, [], ◌∷◌, ◌++◌, length, get_or, sym, refl, ap, ◌∙◌, subst, inl, inr, ⊎_elim, arith}
+use Rattle.std.proofs.Common.{◌≡◌, ℕ, ◌*◌, ◌%◌, Bool, true, eqb, ◌≢◌, ◌⊎◌, List, [], ◌∷◌, ◌++◌, length, get_or, sym, refl, ap, ◌∙◌, subst, inl, inr, arith}
 use Rattle.std.proofs.lemmas.Bool.Decides.{Decides-like, Decides-at, Decides-eqb}
-use Rattle.hexboard.specs.Board.{other, Connects}
+use Rattle.hexboard.specs.Board.{Board, other, Connects}
 use Rattle.hexboard.specs.Geometry.{laid}
 use Rattle.hexboard.proofs.Adjacent.{next_symmetric}
 use Rattle.hexboard.proofs.Boards.{other_side}
@@ -34,6 +34,11 @@ back_again n ms x h =
     ∙ ap (λ q. lift (length (board_of n ms).cells) x q.forest) (played_push (start n) ms x)
     ∙ moved_back (position_of n ms) x (legal_sound n ms before) is
 
+-- Where nobody has connected, neither side has.
+pub neither : (b : Board) (s : ℕ) → Open b → (s ≡ 1) ⊎ (s ≡ 2) → Connects b s → ⊥
+neither b s free (inl e) c = free.0 (subst (Connects b) e c)
+neither b s free (inr e) c = free.1 (subst (Connects b) e c)
+
 -- A side does not play against itself.
 two_sides : (s : ℕ) → (s ≡ 1) ⊎ (s ≡ 2) → other s ≢ s
 two_sides s h e = omega arith
@@ -41,18 +46,15 @@ two_sides s h e = omega arith
 -- After a move to a free cell of a position where nobody has connected, the byte of the stone tells whether its side has now,
 -- and the other side has not.
 module _ (p : Position) (x : ℕ) (ok : Sound p) (is : is_free p.board x ≡ true) (not_yet : Open p.board) where
-  nobody : (t : ℕ) → (t ≡ 1) ⊎ (t ≡ 2) → Connects p.board t → ⊥
-  nobody t h c = ⊎_elim (λ e. not_yet.0 (subst (Connects p.board) e c)) (λ e. not_yet.1 (subst (Connects p.board) e c)) h
-
   pub move_decides : JustIf (Connects (moved p x).board p.turn) (Both (get_or (moved p x).forest.borders x 0))
   move_decides =
       just_if (connects (moved p x).board p.turn)
       (byte_decides (next_symmetric p.board.wide) p.board p.turn x (no_empty p.turn ok.side) (free_parts p.board x is).0 (free_parts p.board x is).1
-      (moved_sound p x ok is).holds (moved_top p x ok is) (λ q. nobody p.turn ok.side ((connects p.board p.turn).1 q)))
+      (moved_sound p x ok is).holds (moved_top p x ok is) (λ q. neither p.board p.turn not_yet ok.side ((connects p.board p.turn).1 q)))
 
   pub move_keeps : Connects (moved p x).board (other p.turn) → ⊥
   move_keeps c =
-      nobody (other p.turn) (other_side p.turn ok.side)
+      neither p.board (other p.turn) not_yet (other_side p.turn ok.side)
       ((connects p.board (other p.turn)).1
       (other_as_before (next_symmetric p.board.wide) p.board p.turn x (no_empty p.turn ok.side) (free_parts p.board x is).0 (free_parts p.board x is).1
       (other p.turn) (two_sides p.turn ok.side) ((connects (moved p x).board (other p.turn)).0 c)))

@@ -1,5 +1,5 @@
 -- Each answer to a move and to a take-back is the right one by the rules.
-use Rattle.std.proofs.Common.{◌≡◌, ℕ, ◌+◌, ◌*◌, ◌%◌, ◌<◌, ◌≤◌, Bool, true, false, eqb, ◌≢◌, ◌⊎◌, List, [], ◌∷◌, ◌++◌, length, get_or, take, set, sym, refl, ap, ◌∙◌, subst, ⊎_elim, arith}
+use Rattle.std.proofs.Common.{◌≡◌, ℕ, ◌+◌, ◌*◌, ◌%◌, ◌<◌, ◌≤◌, Bool, true, false, eqb, ◌≢◌, ◌⊎◌, List, [], ◌∷◌, ◌++◌, length, get_or, take, set, sym, refl, ap, ◌∙◌, subst, arith}
 use Rattle.std.specs.Bool.{then_some}
 use Rattle.std.proofs.lemmas.List.{length_push, take_more_set}
 use Rattle.std.proofs.lemmas.Bool.Decides.{nat_tests}
@@ -15,6 +15,7 @@ use Rattle.groups.specs.Forest.{held}
 use Rattle.groups.specs.Moves.{is_free, board_of, turn_of, forest_of}
 use Rattle.groups.specs.Meaning.{Open}
 use Rattle.groups.proofs.Positions.{board_laid}
+use Rattle.groups.proofs.Theorems.{neither}
 use Rattle.history.specs.Played.{game_of, Played, winner_of, Kept}
 use Rattle.history.specs.Holds.{won_by, Memory, moves_in, formal, Holds, Served}
 use Rattle.history.specs.declared.game.Game.{Game}
@@ -34,8 +35,7 @@ won_then false side = refl
 
 -- where nobody has connected nobody has won
 pub not_won : (g : games.Game) → Open g.board → games.Won g → ⊥
-not_won g free (games.won s side c) =
-    ⊎_elim (λ e. free.0 (subst (Connects g.board) e c)) (λ e. free.1 (subst (Connects g.board) e c)) side
+not_won g free (games.won s side c) = neither g.board s free side c
 
 module _ (n : ℕ) (ms stones : List ℕ) (x : ℕ) (h : Played n ms) (are : stones ≡ (board_of n ms).cells) where
   pub right_no_cell : length stones ≤ x → games.Right (game_of n ms) (games.moves x) (games.refused 2 0) (game_of n ms)

@@ -2,7 +2,7 @@
 use Rattle.std.proofs.Common.{◌≡◌, ℕ, ◌+◌, ◌-◌, ◌*◌, ◌/◌, ◌<◌, true, List, [], ◌∷◌, ◌++◌, length, get_or, take, set, replicate, is_some, Some, None, Option, sym, refl, ap, ◌∙◌, subst, ⊎_elim, arith}
 use Rattle.std.proofs.lemmas.List.{length_push, length-replicate, length-take-le, take_more, take-set}
 use Rattle.std.proofs.lemmas.Bool.{cases_eq, lt-ltb}
-use Rattle.hexboard.specs.Board.{pick, all_cells, Connects}
+use Rattle.hexboard.specs.Board.{pick, all_cells}
 use Rattle.hexboard.specs.Games as games
 use Rattle.hexboard.specs.Words.{words, word_of}
 use Rattle.hexboard.proofs.Boards.{all_cells_replicate}
@@ -10,6 +10,7 @@ use Rattle.hexboard.proofs.TwoBytes.{words_length, words_cleared}
 use Rattle.groups.specs.Forest.{held}
 use Rattle.groups.specs.Moves.{played, is_fair, board_of, forest_of, Legal}
 use Rattle.groups.specs.Meaning.{Open}
+use Rattle.groups.proofs.Theorems.{neither}
 use Rattle.history.specs.Played.{game_of, Played, winner_of, Kept}
 use Rattle.history.specs.Holds.{won_by, Memory, moves_in, formal, Holds, Served}
 use Rattle.history.specs.declared.game.Game.{Game}
@@ -23,7 +24,7 @@ open_none n ms h free =
     ⊎_elim (λ e. e)
     (λ some.
     let told = winner_won n ms h (winner_of n ms) refl some in
-    absurd (⊎_elim (λ e. free.0 (subst (Connects (board_of n ms)) e told.0)) (λ e. free.1 (subst (Connects (board_of n ms)) e told.0)) told.1))
+    absurd (neither (board_of n ms) (winner_of n ms) free told.1 told.0))
     (cases_eq (winner_of n ms) 0)
 
 -- there is no move in a game that has none

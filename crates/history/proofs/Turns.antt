@@ -10,7 +10,7 @@ use Rattle.hexboard.proofs.Boards.{set_back}
 use Rattle.groups.specs.Moves.{Position, start, moved, is_free, position_of, board_of, turn_of, forest_of, Legal}
 use Rattle.groups.specs.Meaning.{JustIf, Both, Open}
 use Rattle.groups.proofs.Positions.{played_push, legal_last, legal_sound, free_parts}
-use Rattle.groups.proofs.Theorems.{one_byte_decides, open_at_first, open_still}
+use Rattle.groups.proofs.Theorems.{neither, one_byte_decides, open_at_first, open_still}
 use Rattle.history.specs.Played.{game_of, Played, winner_of}
 
 -- the last of a list that ends in x, and the list without it
@@ -139,7 +139,7 @@ connects_won n ms h s side c =
     ⊎_elim
     (λ none.
     let at_first : Connects (board_of n []) s = subst (λ (xs : List ℕ). Connects (board_of n xs) s) none c in
-    absurd (⊎_elim (λ e. (open_at_first n).0 (subst (Connects (board_of n [])) e at_first)) (λ e. (open_at_first n).1 (subst (Connects (board_of n [])) e at_first)) side))
+    absurd (neither (board_of n []) s (open_at_first n) side at_first))
     (λ l. subst (λ (xs : List ℕ). winner_of n xs ≡ s) (sym l.2)
     (pushed_connects n l.0 l.1 (subst (Played n) l.2 h) s side (subst (λ (xs : List ℕ). Connects (board_of n xs) s) l.2 c)))
     (by_last ms)

@@ -1,10 +1,11 @@
 -- The answer on a position that moves lead to, from what the search tells of its end.
-use Rattle.std.proofs.Common.{◌≡◌, ℕ, Some, List, length, get_or, sym, ap, ◌∙◌, subst, inl, inr}
-use Rattle.hexboard.specs.Board.{Board, Connects, other}
+use Rattle.std.proofs.Common.{◌≡◌, ℕ, Some, List, length, get_or, sym, ap, ◌∙◌, subst}
+use Rattle.hexboard.specs.Board.{other}
 use Rattle.hexboard.proofs.Boards.{other_side}
 use Rattle.groups.specs.Meaning.{Open}
 use Rattle.groups.specs.Moves.{board_of, Legal, Kept}
 use Rattle.groups.proofs.Positions.{board_good}
+use Rattle.groups.proofs.Theorems.{neither}
 use Rattle.theorems.proofs.Stones.{Side}
 use Rattle.endgame.specs.declared.links.Links.{Links}
 use Rattle.links.specs.declared.grouped.Grouped.{Grouped}
@@ -19,11 +20,6 @@ use Rattle.endgame.specs.Searched.{Looked}
 use Rattle.verdict.specs.Verdicts.{Judges}
 use Rattle.verdict.proofs.Starting.{ending, not_forced, forced_by_move}
 
--- where nobody has connected neither side has
-apart : (b : Board) → Open b → (t : ℕ) → Side t → Connects b t → ⊥
-apart b not_yet t (inl e) c = not_yet.0 (subst (Connects b) e c)
-apart b not_yet t (inr e) c = not_yet.1 (subst (Connects b) e c)
-
 module _ (g : Grouped) (s : ℕ) {cells : List ℕ} {mine theirs : Links} (side : Side s) (lists : Lists g.stones.now cells)
     (own : Prepared g.size.n s g.stones.now g.parents.now g.borders.now cells mine) (others : Prepared g.size.n (other s) g.stones.now g.parents.now g.borders.now cells theirs) where
   end_of : (ms : List ℕ) → Legal g.size.n ms → g.stones.now ≡ (board_of g.size.n ms).cells → Kept g.size.n ms g.parents.now g.borders.now → Open (board_of g.size.n ms) →
@@ -31,7 +27,7 @@ module _ (g : Grouped) (s : ℕ) {cells : List ℕ} {mine theirs : Links} (side 
   end_of ms legal is kept not_yet =
       let b = board_of g.size.n ms in
       let num : Numbered b cells = subst (Numbered b) (sym (lists.cells ∙ ap (λ l. zeros_from 0 l) is)) (free_numbered b) in
-      ending (board_good g.size.n ms g.size.some) side num (own ms legal is kept num) (others ms legal is kept num) (apart b not_yet s side) (apart b not_yet (other s) (other_side s side))
+      ending (board_good g.size.n ms g.size.some) side num (own ms legal is kept num) (others ms legal is kept num) (neither b s not_yet side) (neither b (other s) not_yet (other_side s side))
 
   -- the search says no
   pub judged_no : (carrier : ℕ) → Looked (length cells) mine theirs (Lost carrier) → Judges g.size.n s g.stones.now g.parents.now g.borders.now No
