@@ -1,10 +1,10 @@
 -- What groups tell, for any nearness and any borders: which stones hang together, and whether a side spans from border to border.
-use Rattle.std.proofs.Common.{◌≡◌, ℕ, ◌<◌, Bool, true, ◌≢◌, length, get_or, ap, ◌∙◌, subst, ⊎_elim}
+use Rattle.std.proofs.Common.{◌≡◌, ℕ, ◌<◌, Bool, true, ◌≢◌, ◌↔◌, length, get_or, ap, ◌∙◌, subst, ⊎_elim}
 use Rattle.std.proofs.lemmas.Bool.{cases_eq}
 use Rattle.hexboard.specs.Board.{Board, at, put}
 use Rattle.hexboard.specs.Rows.{Chain, here, step, Stone}
 use Rattle.groups.specs.Forest.{Forest, parent, root}
-use Rattle.groups.specs.Meaning.{JustIf, Both, Spans}
+use Rattle.groups.specs.Meaning.{Both, Spans}
 use Rattle.groups.proofs.Chains.{first_own, last_own, and_then, turned, carried}
 use Rattle.groups.proofs.Climbs.{climb_root, root_top}
 use Rattle.groups.proofs.Marks.{Has, both_bits, bits_both}
@@ -25,7 +25,7 @@ module _ {near : ℕ → ℕ → Bool} (both_ways : (i j : ℕ) → near i j ≡
   one_root t n (step {i = i} {j = j} o c row) = g.meets i j (t, n, o, first_own near row, c) ∙ one_root t n row
 
   -- Two stones of a side have one root just if a row leads from one to the other: by way of the root.
-  pub same_root : (t i j : ℕ) → t ≢ 0 → Stone b t i → Stone b t j → JustIf (root f.parents i ≡ root f.parents j) (Chain near (Stone b t) i j)
+  pub same_root : (t i j : ℕ) → t ≢ 0 → Stone b t i → Stone b t j → ((root f.parents i ≡ root f.parents j) ↔ Chain near (Stone b t) i j)
   same_root t i j n o p =
       (λ e. and_then near (subst (Chain near (Stone b t) i) e (g.hangs t i n o)) (turned near both_ways (g.hangs t j n p)), one_root t n)
 
@@ -44,7 +44,7 @@ module _ {near : ℕ → ℕ → Bool} (both_ways : (i j : ℕ) → near i j ≡
       (rw (one_root t n p.row) (g.shows t p.to 1 n (last_own near p.row) p.last))
 
   -- A side spans just if some group of it has both bits.
-  pub spans : (t : ℕ) → t ≢ 0 → JustIf (Spanning near bits b t) (Spans b t f)
+  pub spans : (t : ℕ) → t ≢ 0 → (Spanning near bits b t ↔ Spans b t f)
   spans t n = (
     λ p.
         record {
@@ -83,7 +83,7 @@ module _ {near : ℕ → ℕ → Bool} (both_ways : (i j : ℕ) → near i j ≡
         step (old_stone i o d) c (row_before row (λ e. d (g.meets i j (s, side, o, first_own near row, c) ∙ e)))
 
     -- If side s did not span before, it does now just if the new stone's byte has both bits.
-    pub byte_decides : (Spanning near bits b s → ⊥) → JustIf (Spanning near bits (put b s x) s) (Both (get_or f.borders x 0))
+    pub byte_decides : (Spanning near bits b s → ⊥) → (Spanning near bits (put b s x) s ↔ Both (get_or f.borders x 0))
     byte_decides not_yet = (
       λ p.
           ⊎_elim

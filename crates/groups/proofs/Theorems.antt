@@ -1,5 +1,5 @@
 -- What groups mean, proved for every legal list of moves.
-use Rattle.std.proofs.Common.{◌≡◌, ℕ, ◌*◌, ◌%◌, Bool, true, eqb, ◌≢◌, ◌⊎◌, List, [], ◌∷◌, ◌++◌, length, get_or, sym, refl, ap, ◌∙◌, subst, inl, inr, arith}
+use Rattle.std.proofs.Common.{◌≡◌, ℕ, ◌*◌, ◌%◌, Bool, true, eqb, ◌≢◌, ◌⊎◌, ◌↔◌, List, [], ◌∷◌, ◌++◌, length, get_or, sym, refl, ap, ◌∙◌, subst, inl, inr, arith}
 use Rattle.std.proofs.lemmas.Bool.Decides.{Decides-like, Decides-at, Decides-eqb}
 use Rattle.hexboard.specs.Board.{Board, other, Connects}
 use Rattle.hexboard.specs.Geometry.{laid}
@@ -7,7 +7,7 @@ use Rattle.hexboard.proofs.Adjacent.{next_symmetric}
 use Rattle.hexboard.proofs.Boards.{other_side}
 use Rattle.groups.specs.Forest.{Forest, root, place, lift}
 use Rattle.groups.specs.Moves.{Position, start, moved, is_free, position_of, board_of, turn_of, forest_of, Legal, HeldAround}
-use Rattle.groups.specs.Meaning.{JustIf, Both, Together, Joined, Open, OneByteDecides, BackAgain, KeptOnce}
+use Rattle.groups.specs.Meaning.{Both, Together, Joined, Open, OneByteDecides, BackAgain, KeptOnce}
 use Rattle.groups.specs.Meaning.{OneMore, OneFewer, TellsRows, TellsWinner}
 use Rattle.hexboard.proofs.TwoBytes.{same_bytes}
 use Rattle.groups.proofs.Spanning.{same_root, spans, byte_decides, other_as_before}
@@ -16,7 +16,7 @@ use Rattle.groups.proofs.Positions.{Sound, no_empty, of_both, free_parts, moved_
 use Rattle.groups.proofs.Positions.{legal_none, legal_sound, legal_last, nothing_first, played_push, board_cells, board_laid, board_push, forest_push, place_alike}
 
 -- Each of two statements that hold just if a third does holds just if the other does.
-just_if : {P Q R : Type 0} → JustIf P Q → JustIf Q R → JustIf P R
+just_if : {P Q R : Type 0} → (P ↔ Q) → (Q ↔ R) → (P ↔ R)
 just_if h k = (λ p. k.0 (h.0 p), λ r. h.1 (k.1 r))
 
 pub together : Together
@@ -46,7 +46,7 @@ two_sides s h e = omega arith
 -- After a move to a free cell of a position where nobody has connected, the byte of the stone tells whether its side has now,
 -- and the other side has not.
 module _ (p : Position) (x : ℕ) (ok : Sound p) (is : is_free p.board x ≡ true) (not_yet : Open p.board) where
-  pub move_decides : JustIf (Connects (moved p x).board p.turn) (Both (get_or (moved p x).forest.borders x 0))
+  pub move_decides : Connects (moved p x).board p.turn ↔ Both (get_or (moved p x).forest.borders x 0)
   move_decides =
       just_if (connects (moved p x).board p.turn)
       (byte_decides (next_symmetric p.board.wide) p.board p.turn x (no_empty p.turn ok.side) (free_parts p.board x is).0 (free_parts p.board x is).1
@@ -63,7 +63,7 @@ pub one_byte_decides : OneByteDecides
 one_byte_decides n ms x h not_yet =
     let (before, is) = legal_last n ms x h in
     let ok = legal_sound n ms before in
-    subst (λ q. JustIf (Connects q.board (turn_of n ms)) (Both (get_or q.forest.borders x 0)) × (Connects q.board (other (turn_of n ms)) → ⊥))
+    subst (λ q. (Connects q.board (turn_of n ms) ↔ Both (get_or q.forest.borders x 0)) × (Connects q.board (other (turn_of n ms)) → ⊥))
     (sym (played_push (start n) ms x))
     (move_decides (position_of n ms) x ok is not_yet, move_keeps (position_of n ms) x ok is not_yet)
 

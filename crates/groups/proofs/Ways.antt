@@ -1,12 +1,11 @@
 -- A way is a row of stones from the first border to the last, and the other way about.
-use Rattle.std.proofs.Common.{◌≡◌, ℕ, Bool, true, ◌&&◌, eqb, ltb, List, [], ◌∷◌, length, Decides, sym, refl, subst, arith}
+use Rattle.std.proofs.Common.{◌≡◌, ℕ, Bool, true, ◌&&◌, eqb, ltb, ◌↔◌, List, [], ◌∷◌, length, Decides, sym, refl, subst, arith}
 use Rattle.std.proofs.lemmas.Bool.{and_parts, and_from, false≢true}
 use Rattle.std.proofs.lemmas.Bool.Decides.{nat_tests}
 use Rattle.hexboard.specs.Board.{Board, at, next_to, begins, ends, goes_on, is_way, Connects}
 use Rattle.hexboard.specs.Rows.{here, step, Stone, Row}
 use Rattle.hexboard.specs.Geometry.{touch}
 use Rattle.hexboard.proofs.Adjacent.{touch_first, touch_last, touch_few}
-use Rattle.groups.specs.Meaning.{JustIf}
 use Rattle.groups.proofs.Chains.{first_own}
 use Rattle.groups.proofs.Marks.{Has}
 use Rattle.groups.proofs.Spanning.{Spanning}
@@ -67,5 +66,5 @@ row_way b s p =
     (p.from ∷ js, and_from _ _ (and_from (begins b.wide s p.from) (is_stone b s p.from) ((first_bit b.wide s p.from).1 p.first) stone) on)
 
 -- A side has connected just if a row of its stones leads from its first border to its last.
-pub connects : (b : Board) (s : ℕ) → JustIf (Connects b s) (Spanning (next_to b.wide) (touch b.wide) b s)
+pub connects : (b : Board) (s : ℕ) → Connects b s ↔ Spanning (next_to b.wide) (touch b.wide) b s
 connects b s = (λ c. way_row b s c.0 c.1, row_way b s)

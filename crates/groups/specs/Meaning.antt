@@ -1,13 +1,9 @@
 -- What the groups mean, for every legal list of moves on boards of every size: who hangs together, and who has connected.
-use Rattle.std.specs.Prelude.{◌≡◌, ℕ, ◌*◌, ◌%◌, ◌<◌, Bool, ◌≢◌, List, [], ◌∷◌, ◌++◌, length, Decides, slice_index}
+use Rattle.std.specs.Prelude.{◌≡◌, ℕ, ◌*◌, ◌%◌, ◌<◌, Bool, ◌≢◌, ◌↔◌, List, [], ◌∷◌, ◌++◌, length, Decides, slice_index}
 use Rattle.hexboard.specs.Board.{Board, Connects, other}
 use Rattle.hexboard.specs.Rows.{Stone, Row}
 use Rattle.groups.specs.Forest.{Forest, parent, root, lift}
 use Rattle.groups.specs.Moves.{board_of, turn_of, forest_of, Legal, Kept, HeldAround}
-
--- each of two statements follows from the other
-abbrev pub JustIf : Type 0 → Type 0 → Type 0
-JustIf P Q = (P → Q) × (Q → P)
 
 -- both border bits
 abbrev pub Both : ℕ → Type 0
@@ -17,7 +13,7 @@ Both bits = bits % 4 ≡ 3
 abbrev pub Together : Type 0
 Together =
     (n : ℕ) (ms : List ℕ) (s i j : ℕ) → Legal n ms → s ≢ 0 → Stone (board_of n ms) s i → Stone (board_of n ms) s j →
-    JustIf (root (forest_of n ms).parents i ≡ root (forest_of n ms).parents j) (Row (board_of n ms) s i j)
+    ((root (forest_of n ms).parents i ≡ root (forest_of n ms).parents j) ↔ Row (board_of n ms) s i j)
 
 -- some group of side s touches both its borders
 pub record Spans (b : Board) (s : ℕ) (f : Forest) : Type 0 where
@@ -28,7 +24,7 @@ pub record Spans (b : Board) (s : ℕ) (f : Forest) : Type 0 where
 
 -- A side has connected just if some group of it touches both its borders.
 abbrev pub Joined : Type 0
-Joined = (n : ℕ) (ms : List ℕ) (s : ℕ) → Legal n ms → s ≢ 0 → JustIf (Connects (board_of n ms) s) (Spans (board_of n ms) s (forest_of n ms))
+Joined = (n : ℕ) (ms : List ℕ) (s : ℕ) → Legal n ms → s ≢ 0 → (Connects (board_of n ms) s ↔ Spans (board_of n ms) s (forest_of n ms))
 
 -- nobody has connected
 abbrev pub Open : Board → Type 0
@@ -38,7 +34,7 @@ Open b = (Connects b 1 → ⊥) × (Connects b 2 → ⊥)
 abbrev pub OneByteDecides : Type 0
 OneByteDecides =
     (n : ℕ) (ms : List ℕ) (x : ℕ) → Legal n (ms ++ (x ∷ [])) → Open (board_of n ms) →
-    JustIf (Connects (board_of n (ms ++ (x ∷ []))) (turn_of n ms)) (Both (slice_index (forest_of n (ms ++ (x ∷ []))).borders x))
+    (Connects (board_of n (ms ++ (x ∷ []))) (turn_of n ms) ↔ Both (slice_index (forest_of n (ms ++ (x ∷ []))).borders x))
     × (Connects (board_of n (ms ++ (x ∷ []))) (other (turn_of n ms)) → ⊥)
 
 -- The last stone taken out leaves the groups as they were before it.

@@ -1,5 +1,5 @@
 -- One move more, and one move back: what becomes of the game, its board and who has won.
-use Rattle.std.proofs.Common.{◌≡◌, ℕ, ◌%◌, ◌<◌, true, false, eqb, ◌≢◌, ◌⊎◌, List, [], ◌∷◌, ◌++◌, length, get_or, sym, refl, ap, ◌∙◌, subst, inl, inr, ⊎_elim, arith}
+use Rattle.std.proofs.Common.{◌≡◌, ℕ, ◌%◌, ◌<◌, true, false, eqb, ◌≢◌, ◌⊎◌, ◌↔◌, List, [], ◌∷◌, ◌++◌, length, get_or, sym, refl, ap, ◌∙◌, subst, inl, inr, ⊎_elim, arith}
 use Rattle.std.proofs.lemmas.List.{length_push, take_at}
 use Rattle.std.proofs.lemmas.Bool.{cases_eq}
 use Rattle.std.proofs.lemmas.Bool.Decides.{nat_tests}
@@ -8,7 +8,7 @@ use Rattle.hexboard.specs.Games as games
 use Rattle.hexboard.specs.Geometry.{laid}
 use Rattle.hexboard.proofs.Boards.{set_back}
 use Rattle.groups.specs.Moves.{Position, start, moved, is_free, position_of, board_of, turn_of, forest_of, Legal}
-use Rattle.groups.specs.Meaning.{JustIf, Both, Open}
+use Rattle.groups.specs.Meaning.{Both, Open}
 use Rattle.groups.proofs.Positions.{played_push, legal_last, legal_sound, free_parts}
 use Rattle.groups.proofs.Theorems.{neither, one_byte_decides, open_at_first, open_still}
 use Rattle.history.specs.Played.{game_of, Played, winner_of}
@@ -83,7 +83,7 @@ module _ (n : ℕ) (ms : List ℕ) (x : ℕ) (h : Played n (ms ++ x ∷ [])) whe
   mover_side = (legal_sound n ms (legal_last n ms x h.legal).0).side
 
   -- the byte of the last stone tells whether its side has connected, and the other side has not
-  decides : JustIf (Connects (board_of n (ms ++ x ∷ [])) mover) (Both byte) × (Connects (board_of n (ms ++ x ∷ [])) (other mover) → ⊥)
+  decides : (Connects (board_of n (ms ++ x ∷ [])) mover ↔ Both byte) × (Connects (board_of n (ms ++ x ∷ [])) (other mover) → ⊥)
   decides = one_byte_decides n ms x h.legal open_before
 
   pub winner_push : winner_of n (ms ++ x ∷ []) ≡ pick (eqb (byte % 4) 3) mover 0

@@ -1,9 +1,9 @@
 -- The moves tell every byte of the memory, and who has won is who has connected: statements. A function's contract asks for each.
-use Rattle.std.specs.Prelude.{◌≡◌, ℕ, ◌<◌, ◌⊎◌, List, slice_index}
+use Rattle.std.specs.Prelude.{◌≡◌, ℕ, ◌<◌, ◌⊎◌, ◌↔◌, List, slice_index}
 use Rattle.hexboard.specs.Board.{Connects}
 use Rattle.hexboard.specs.Games as games
 use Rattle.groups.specs.Moves.{board_of}
-use Rattle.groups.specs.Meaning.{JustIf, Open}
+use Rattle.groups.specs.Meaning.{Open}
 use Rattle.history.specs.Played.{Played, winner_of}
 use Rattle.history.specs.Holds.{Memory, formal, Holds, Served}
 use Rattle.history.specs.declared.game.Game.{Game}
@@ -25,8 +25,8 @@ BackToTheByte =
 
 -- A side has won, by the byte of the last stone, just if it has connected on the board,
 abbrev pub WinnerConnects : Type 0
-WinnerConnects = (n s : ℕ) (ms : List ℕ) → Played n ms → (s ≡ 1) ⊎ (s ≡ 2) → JustIf (winner_of n ms ≡ s) (Connects (board_of n ms) s)
+WinnerConnects = (n s : ℕ) (ms : List ℕ) → Played n ms → (s ≡ 1) ⊎ (s ≡ 2) → ((winner_of n ms ≡ s) ↔ Connects (board_of n ms) s)
 
 -- and nobody has won just if nobody has connected.
 abbrev pub NobodyConnects : Type 0
-NobodyConnects = (n : ℕ) (ms : List ℕ) → Played n ms → JustIf (winner_of n ms ≡ 0) (Open (board_of n ms))
+NobodyConnects = (n : ℕ) (ms : List ℕ) → Played n ms → ((winner_of n ms ≡ 0) ↔ Open (board_of n ms))
