@@ -3,7 +3,7 @@ use Rattle.std.specs.Prelude.{◌≡◌, ℕ, ◌-◌, ◌*◌, ◌%◌, ◌<◌
 use Rattle.hexboard.specs.Board.{pick, all_cells, other}
 use Rattle.hexboard.specs.Games as games
 use Rattle.hexboard.specs.Words.{words}
-use Rattle.groups.specs.Forest.{held}
+use Rattle.groups.specs.Moves as moves
 use Rattle.groups.specs.Moves.{board_of, turn_of, forest_of, Legal}
 use Rattle.groups.specs.Meaning.{Open}
 
@@ -28,5 +28,5 @@ pub record Kept (n : ℕ) (ms stones log parents borders : List ℕ) : Type 0 wh
   pub stones_are : stones ≡ (board_of n ms).cells
   pub log_is : words log ≡ ms ++ all_cells (n * n - length ms)
   pub log_long : length log ≡ n * n * 2
-  pub groups_are : held parents borders ≡ forest_of n ms
+  pub groups_are : moves.Kept n ms parents borders
   pub parents_long : length parents ≡ n * n * 2
