@@ -2,7 +2,7 @@
 use Rattle.std.proofs.Common.{◌≡◌, ℕ, zero, suc, ◌+◌, ◌<◌, Bool, true, eqb, ◌≢◌, ◌⊎◌, List, length, get_or, set, Some, None, Option, sym, refl, ap, ◌∙◌, subst, subst₂, inl, inr, ⊎_elim, arith}
 use Rattle.std.proofs.lemmas.List.{length-set, get_or-set_same, get_or-set_other, get_or_past}
 use Rattle.std.proofs.lemmas.Bool.{cases_eq, cases_lt, eq-eqb, ne_eqb}
-use Rattle.std.proofs.lemmas.Option.{none-some}
+use Rattle.std.proofs.lemmas.Option.{none-some, same_Some}
 use Rattle.hexboard.specs.Board.{pick, Board, at, put}
 use Rattle.hexboard.specs.Geometry.{over}
 use Rattle.hexboard.specs.Rows.{Chain, here, Stone}
@@ -45,10 +45,6 @@ adopt_alike b c s x next same (suc m) f = look (next m) refl ∙ ap (take_in c s
     look : (o : Option ℕ) → next m ≡ o → take_in b s x o (adopt b s x next m f) ≡ take_in c s x o (adopt b s x next m f)
     look None e = refl
     look (Some y) e = ap (λ v. pick (eqb v s) (join (root (adopt b s x next m f).parents y) x (adopt b s x next m f)) (adopt b s x next m f)) (same m y e)
-
--- What an option holds it holds once.
-some_once : {i j : ℕ} → Some i ≡ Some j → i ≡ j
-some_once e = cc
 
 -- Only cells of the board hold stones.
 pub stone_here : (b : Board) (s y : ℕ) → s ≢ 0 → at b y ≡ s → Stone b s y
@@ -164,7 +160,7 @@ module _ (b : Board) (s x : ℕ) (side : s ≢ 0) (on : x < length b.cells) (fre
           new i j (inl t) = more.0.meets i j (inl (inl t))
           new i j (inr (k, l, q, o, z)) =
               ⊎_elim
-              (λ same. more.0.meets i j (inr (some_once (sym q ∙ ap next same ∙ e), z)))
+              (λ same. more.0.meets i j (inr (same_Some _ _ (sym q ∙ ap next same ∙ e), z)))
               (λ d. more.0.meets i j (inl (inr (k, omega arith, q, o, z))))
               (cases_eq k m)
 
@@ -175,7 +171,7 @@ module _ (b : Board) (s x : ℕ) (side : s ≢ 0) (on : x < length b.cells) (fre
           (λ is. subst (λ t. Growing (suc m) (pick t (join (root h.parents y) x h) h)) (sym (eq-eqb (at b y) s is)) (one_met m y h e (stone_here b s y side is) w))
           (λ isnt.
           subst (λ t. Growing (suc m) (pick t (join (root h.parents y) x h) h)) (sym (ne_eqb (at b y) s isnt))
-          (nothing_new m h (λ z q o. isnt (ap (at b) (some_once (sym e ∙ q)) ∙ o.1)) w))
+          (nothing_new m h (λ z q o. isnt (ap (at b) (same_Some _ _ (sym e ∙ q)) ∙ o.1)) w))
           (cases_eq (at b y) s)
 
       growing : (m : ℕ) → Growing m (adopt b s x next m (alone x (bits s x) f))

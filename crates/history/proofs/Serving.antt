@@ -9,7 +9,7 @@ use Rattle.hexboard.specs.Games as games
 use Rattle.hexboard.specs.Sides.{number}
 use Rattle.hexboard.specs.Words.{words}
 use Rattle.hexboard.specs.declared.side.Side.{Side}
-use Rattle.hexboard.specs.declared.side.Side.TheVariants.{One, Two}
+use Rattle.hexboard.proofs.Boards.{number_few}
 use Rattle.hexboard.proofs.TwoBytes.{words_length}
 use Rattle.groups.specs.Forest.{held}
 use Rattle.groups.specs.Moves.{is_free, board_of, turn_of, forest_of}
@@ -25,8 +25,7 @@ use Rattle.history.proofs.Turns.{game_push, winner_open, winner_won, winner_push
 
 -- a side is not nobody
 pub some_side : (side : Side) → number side ≢ 0
-some_side One = omega arith
-some_side Two = omega arith
+some_side side = omega (arith, number_few side)
 
 -- a side that has won by a test
 pub won_then : (t : Bool) (side : Side) → won_by (then_some t side) ≡ pick t (number side) 0
