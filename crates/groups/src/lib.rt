@@ -86,7 +86,7 @@ pub fn root(parents: &[u8], cell: u16) -> u16
     ensures { result ≡ root (words parents.now) cell }
 {
     let mut at = cell;
-    // No way up is longer than there are cells.
+    // No way up has more steps than there are cells.
     for _ in 0..parents.len() / 2 {
         let above = parent(parents, at);
         if above == at {

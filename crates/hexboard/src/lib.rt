@@ -1,4 +1,4 @@
-// Boards of six-sided cells: the sides, the sizes a board can have, and the geometry, in code.
+// Boards of six-sided cells, in code: the sides, the sizes a board can have, the geometry, stones on lent bytes, and numbers of two bytes.
 #![tactic(auto)]
 
 mod geometry;

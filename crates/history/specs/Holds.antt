@@ -57,6 +57,6 @@ pub record TurnedAway (g : Game) (m : Memory) (call : games.Call) (why : Refusal
   pub right : games.Right (formal g m) call (games.refused (reason why).number (reason why).place) (formal g m)
   pub unchanged : k ≡ m
 
--- one or the other; what is answered is a number, which the game afterwards gives
+-- one or the other; what is answered is a number, told of the game afterwards; for a move it is how many were made before it
 abbrev pub Settled : Game → Memory → games.Call → (Game → ℕ) → Memory → Result Game Refusal → Type 0
 Settled g m call told k r = MatchResult r (λ h. Served g m call (games.number (told h)) h k) (λ why. TurnedAway g m call why k)

@@ -1,6 +1,6 @@
 // Moves made and taken back. The lent memory is a function of the list of moves, byte for byte.
 // Its four parts are passed one by one. As one struct by value, as the groups' two are, they were tried: what the functions here
-// promise proves, but not the desk that lends its vectors so, for a proof does not know afterwards what the vectors hold.
+// promise can then be proved, but not what the desk promises that lends its vectors so: a proof does not know afterwards what they hold.
 ghost use Rattle.std.specs.Prelude.{◌≡◌, ◌*◌, ◌%◌, ◌==◌};
 ghost use Rattle.hexboard.specs.Board.{pick};
 ghost use Rattle.hexboard.specs.Games as games;

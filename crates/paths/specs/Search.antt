@@ -8,7 +8,8 @@ pub record Lent (n : ℕ) (cells queue from : List ℕ) : Type 0 where
   pub queued : length queue ≡ 2 * (n * n)
   pub marked : length from ≡ 2 * (n * n)
 
--- For each place `from` has one more than the place from which it was reached, and 0 if it was not.
+-- For each place `from` has one more than the place from which it was reached, and 0 if it was not. The search starts at the last border,
+-- and lists a place that it starts from as reached from itself.
 abbrev pub Reached : List ℕ → ℕ → Type 0
 Reached from x = 0 < slice_index from x
 

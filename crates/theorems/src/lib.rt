@@ -35,7 +35,7 @@ pub fn one_of_both()
     ensures beaten { (b : Board) (s t : ℕ) → Good b → (s ≡ 1) ⊎ (s ≡ 2) → Connects b (other s) → Forces s b t → ⊥ }
 {}
 
-// A stone more is never a loss, and so neither is to be to move.
+// A stone more is never a loss, nor is having the move.
 pub fn never_a_loss()
     ensures theorem { NeverALoss }
     ensures turn { (b : Board) (s : ℕ) → (s ≡ 1) ⊎ (s ≡ 2) → Forces s b (other s) → Forces s b s }
