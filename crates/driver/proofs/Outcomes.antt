@@ -4,7 +4,10 @@ use Rattle.hexboard.specs.Games as games
 use Rattle.hexboard.specs.Sides.{number}
 use Rattle.hexboard.specs.declared.side.Side.{Side}
 use Rattle.hexboard.specs.declared.side.Side.TheVariants.{One, Two}
-use Rattle.driver.specs.Drawn.{Outcome, Drawn, Marked, shown_by}
+use Rattle.wire.specs.Formal.{shown_by}
+use Rattle.session.specs.Desks.{Outcome}
+use Rattle.session.specs.Short.{Short}
+use Rattle.driver.specs.Drawn.{Drawn, Marked}
 use Rattle.driver.specs.Served.{TooLong}
 
 one_or_two : (side : Side) → (number side ≡ 1) ⊎ (number side ≡ 2)
@@ -35,10 +38,11 @@ who_keeps (games.not_forced f) e = refl
 who_keeps (games.many p w) e = refl
 
 -- the cells that are marked are those of the answer's way
-pub marked : (g h : games.Game) (a : games.Answer) (cells before after : List ℕ) → games.Right g games.who a h → cells ≡ shown_by a → Drawn h cells before after → Marked g h before after
-marked g h a cells before after right is shown =
+pub marked : (g h : games.Game) (a : games.Answer) (cells before after : List ℕ) → games.Right g games.who a h → Short g.board a → cells ≡ shown_by a → Drawn h cells before after →
+    Marked g before after
+marked g h a cells before after right short is shown =
     let same : h ≡ g = who_keeps right refl in
-    (same, (a, subst (λ (k : games.Game). games.Right g games.who a k) same right, subst (λ (k : games.Game). Drawn k (shown_by a) before after) same (subst (λ (xs : List ℕ). Drawn h xs before after) is shown)))
+    (a, subst (λ (k : games.Game). games.Right g games.who a k) same right, short, subst (λ (k : games.Game). Drawn k (shown_by a) before after) same (subst (λ (xs : List ℕ). Drawn h xs before after) is shown))
 
 -- an end is too long where a program looks through ends, and the test of how far was met
 pub too_long : (ends : Option ℕ) (r : Bool) (cells : ℕ) {Q : ℕ → Type 0} → r ≡ true → MatchOption ends (r ≡ false) Q → ((x : ℕ) → Q x → x < cells) → TooLong ends cells

@@ -1,9 +1,9 @@
 // Draws the board of a desk, and says who has won.
 ghost use Rattle.std.specs.Prelude.{◌≡◌, ℕ, List, [], ◌++◌, string_bytes, OnOk};
-ghost use Rattle.wire.specs.Formal.{told};
+ghost use Rattle.wire.specs.Formal.{told, shown_by};
 ghost use Rattle.hexboard.specs.Words.{words};
 ghost use Rattle.session.specs.Desks.{desk_game};
-ghost use Rattle.driver.specs.Drawn.{Drawn, Marked, shown_by};
+ghost use Rattle.driver.specs.Drawn.{Drawn, Marked};
 
 use session::Desk;
 use std::fmt;
@@ -19,9 +19,10 @@ pub fn write_position(out: &mut String, desk: &Desk) -> fmt::Result
     draw(out, desk, &[])
 }
 
-// Adds the same with the cells of a way marked, if somebody has connected.
+// Adds the same with the cells of a shortest way marked, if somebody has connected. The game is as it was, whether or not there is memory.
 pub fn write_marked_position(out: &mut String, desk: &mut Desk) -> fmt::Result
-    ensures { OnOk result (Marked (desk_game desk.old) (desk_game desk.new) (string_bytes out.old) (string_bytes out.new)) }
+    ensures kept { desk_game desk.new ≡ desk_game desk.old }
+    ensures drawn { OnOk result (Marked (desk_game desk.old) (string_bytes out.old) (string_bytes out.new)) }
 {
     let reply = desk.serve(Call::Who);
     let way = cells_of(desk.answer(reply));

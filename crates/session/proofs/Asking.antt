@@ -13,6 +13,7 @@ use Rattle.history.specs.declared.game.Game.{Game}
 use Rattle.history.proofs.Serving.{some_side, not_won, winner_connects, right_way}
 use Rattle.history.proofs.Turns.{winner_open, winner_won}
 use Rattle.wire.specs.declared.answer.Answer.TheVariants as reply
+use Rattle.session.specs.Desks.{Outcome}
 use Rattle.session.specs.Replies.{Reply}
 use Rattle.session.specs.Short.{Short}
 use Rattle.wire.specs.declared.refusal.Refusal.{Refusal}
@@ -42,7 +43,7 @@ pub not_refused_way : (side : Side) (k : ℕ) (why : Refusal) → ◌≡◌ {A =
 not_refused_way side k why e = let z : ◌≡◌ {A = ℕ} 0 1 = cc in omega arith
 
 -- nobody has won, or the winner has connected
-pub won_or_nobody : (g : Game) (m : Memory) → Holds g m → (r : Option Side) → r ≡ g.winner → MatchOption r (games.Won (formal g m) → ⊥) (λ side. Connects (formal g m).board (number side))
+pub won_or_nobody : (g : Game) (m : Memory) → Holds g m → (r : Option Side) → r ≡ g.winner → Outcome (formal g m) r
 won_or_nobody g m h None e = not_won (formal g m) (winner_open g.size.n (moves_in g m) h.played (sym h.winner ∙ ap won_by (sym e)))
 won_or_nobody g m h (Some side) e =
     (winner_won g.size.n (moves_in g m) h.played (number side) (sym h.winner ∙ ap won_by (sym e)) (some_side side)).0

@@ -8,14 +8,14 @@ use Rattle.hexboard.specs.Games as games
 use Rattle.hexboard.specs.Sides.{number}
 use Rattle.hexboard.specs.declared.side.Side.{Side}
 use Rattle.hexboard.specs.Words.{words}
-use Rattle.wire.specs.Bytes.{two, way_head, Written}
+use Rattle.wire.specs.Bytes.{two, way_head, shown, Written}
 use Rattle.wire.specs.Formal.{asked}
 use Rattle.wire.specs.Numbers.{reason}
 use Rattle.wire.specs.Reading.{read}
 use Rattle.wire.specs.declared.call.Call.{Call}
 use Rattle.hexboard.proofs.TwoBytes.{words_length}
 use Rattle.wire.proofs.Words.{joined_words, length_joined}
-use Rattle.session.specs.Replies.{Reply, replied, way_cells, shown}
+use Rattle.session.specs.Replies.{Reply, replied, way_cells}
 use Rattle.session.specs.Calling.{Shown, Refuses, RightBytes}
 use Rattle.wire.specs.declared.answer.Answer.TheVariants as reply
 use Rattle.wire.specs.declared.refusal.Refusal.{Refusal}

@@ -1,12 +1,12 @@
 -- What a row of bytes asked of a game in lent memory does, and the bytes that answer it.
 use Rattle.std.specs.Prelude.{◌≡◌, ℕ, ◌+◌, ◌*◌, ◌<◌, ◌≤◌, List, ◌++◌, length, drop, Some, None, Option, MatchResult}
 use Rattle.hexboard.specs.Games as games
+use Rattle.wire.specs.Bytes.{shown}
 use Rattle.wire.specs.Formal.{asked}
 use Rattle.wire.specs.Numbers.{reason}
 use Rattle.wire.specs.Reading.{read}
 use Rattle.history.specs.Holds.{Memory, formal, Holds}
 use Rattle.history.specs.declared.game.Game.{Game}
-use Rattle.session.specs.Replies.{shown}
 use Rattle.session.specs.Short.{Short}
 
 -- an answer's bytes stand at the front of old, which becomes new; behind them nothing changes

@@ -1,6 +1,9 @@
 -- The game of the rules that a desk stands for, and what its answers are by the rules.
-use Rattle.std.specs.Prelude.{◌≡◌, ℕ, ◌<◌, ◌≤◌, Ok, Err, vec_items, Result}
+use Rattle.std.specs.Prelude.{◌≡◌, ℕ, ◌<◌, ◌≤◌, Ok, Err, vec_items, Option, Result, MatchOption}
+use Rattle.hexboard.specs.Board.{Connects}
 use Rattle.hexboard.specs.Games as games
+use Rattle.hexboard.specs.Sides.{number}
+use Rattle.hexboard.specs.declared.side.Side.{Side}
 use Rattle.wire.specs.declared.refusal.Refusal.TheVariants as refusal
 use Rattle.history.specs.Holds.{Memory, lent, formal}
 use Rattle.session.specs.declared.desk.Desk.{Desk}
@@ -14,6 +17,10 @@ memory_of d = lent (vec_items d.stones) (vec_items d.log) (vec_items d.parents) 
 -- the game that it stands for
 abbrev pub desk_game : Desk → games.Game
 desk_game d = formal d.game (memory_of d)
+
+-- who has won game g: the side that has connected, or nobody
+abbrev pub Outcome : games.Game → Option Side → Type 0
+Outcome g winner = MatchOption winner (games.Won g → ⊥) (λ side. Connects g.board (number side))
 
 -- What opening answers: a new game, or that n is not from 1 to 19; or there is no memory.
 abbrev pub Opened : ℕ → Result Desk Unopened → Type 0

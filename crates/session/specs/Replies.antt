@@ -1,10 +1,9 @@
--- Replies as answers of the rules, and an answer's bytes.
-use Rattle.std.specs.Prelude.{ℕ, ◌*◌, ◌^◌, ◌<◌, List, [], ◌∷◌, length, take}
+-- Replies as answers of the rules.
+use Rattle.std.specs.Prelude.{ℕ, ◌*◌, ◌^◌, ◌<◌, List, [], take}
 use Rattle.hexboard.specs.Games as games
 use Rattle.hexboard.specs.Sides.{number}
 use Rattle.hexboard.specs.Words.{words}
-use Rattle.wire.specs.Bytes.{in_bytes}
-use Rattle.wire.specs.Numbers.{Numbered, InBytes, reason, next_of}
+use Rattle.wire.specs.Numbers.{InBytes, reason, next_of}
 use Rattle.wire.specs.declared.answer.Answer.{Answer}
 use Rattle.wire.specs.declared.answer.Answer.TheVariants.{Refused, Number, Way, Yes, No, TooMany}
 
@@ -47,16 +46,3 @@ HasBytes (Way side count) = Unit {0}
 HasBytes (Yes cell) = next_of cell < 2 ^ 16
 HasBytes No = Unit {0}
 HasBytes TooMany = Unit {0}
-
--- an answer in numbers: its case, and the values that the case holds
-abbrev pub in_numbers : games.Answer → Numbered
-in_numbers (games.refused r p) = record { number = 0; values = r ∷ (p ∷ []) }
-in_numbers (games.number n) = record { number = 1; values = n ∷ [] }
-in_numbers (games.way s w) = record { number = 2; values = s ∷ (length w ∷ w) }
-in_numbers (games.yes next) = record { number = 3; values = next ∷ [] }
-in_numbers games.no = record { number = 4; values = [] }
-in_numbers games.too_many = record { number = 5; values = [] }
-
--- the bytes of an answer
-abbrev pub shown : games.Answer → List ℕ
-shown a = in_bytes (in_numbers a)

@@ -3,7 +3,7 @@ use Rattle.std.specs.Prelude.{◌≡◌, ℕ, ◌≤◌, true, List, length, ⊤
 use Rattle.hexboard.specs.Board.{Board, is_way}
 use Rattle.hexboard.specs.Games as games
 
--- the answer shows no way, or one of which no way of that side on the board has fewer cells
+-- the answer shows no way, or one than which no way of that side on the board has fewer cells
 abbrev pub Short : Board → games.Answer → Type 0
 Short b (games.refused r p) = ⊤
 Short b (games.number n) = ⊤

@@ -1,12 +1,11 @@
 // Opening a desk, and its calls. Each answer is right by the rules for the games before and after it.
-ghost use Rattle.std.specs.Prelude.{◌≡◌, ℕ, ◌*◌, ◌<◌, ◌≤◌, length, take, drop, IfOk, MatchOption, replicate, vec_items};
-ghost use Rattle.hexboard.specs.Board.{Connects, empties};
+ghost use Rattle.std.specs.Prelude.{◌≡◌, ℕ, ◌*◌, ◌<◌, ◌≤◌, length, take, drop, IfOk, replicate, vec_items};
+ghost use Rattle.hexboard.specs.Board.{empties};
 ghost use Rattle.hexboard.specs.Games as games;
-ghost use Rattle.hexboard.specs.Sides.{number};
 ghost use Rattle.hexboard.specs.Words.{words};
 ghost use Rattle.history.specs.Holds.{won_by};
 ghost use Rattle.history.specs.Played.{winner_of};
-ghost use Rattle.session.specs.Desks.{desk_game, Opened};
+ghost use Rattle.session.specs.Desks.{desk_game, Outcome, Opened};
 ghost use Rattle.session.specs.Replies.{replied, way_cells, way_bytes};
 ghost use Rattle.session.specs.Short.{Short};
 ghost use Rattle.session.specs.Told.{told, told_who, found_cells};
@@ -94,7 +93,7 @@ impl Desk {
         Ok(self.game.count())
     }
 
-    // Who has connected, and how: the side, and how many cells its way has, a shortest. `way` then gives them.
+    // Who has connected, and how: the side, and how many cells its way has, a shortest. They then stand at the front of `way`.
     pub fn who(&mut self) -> Option<(Side, u16)>
         ensures right { games.Right (desk_game self.old) games.who (told_who result self.new.way.items) (desk_game self.new) }
         ensures short { Short (desk_game self.old).board (told_who result self.new.way.items) }
@@ -104,7 +103,7 @@ impl Desk {
         who(self.game, &self.stones, &mut self.scratch, &mut self.way)
     }
 
-    // Serves a call. If the answer is a way, `way` then gives its cells.
+    // Serves a call. If the answer is a way, its cells then stand at the front of `way`.
     pub fn serve(&mut self, call: Call) -> Reply
         ensures right { games.Right (desk_game self.old) (asked call) (replied result self.new.way.items) (desk_game self.new) }
         ensures short { Short (desk_game self.old).board (replied result self.new.way.items) }
@@ -125,7 +124,8 @@ impl Desk {
         reply
     }
 
-    // The bytes of the way that was found last, two a cell, low byte first.
+    // The bytes that ways are written to, two a cell, low byte first. The way that was found last stands at the front, with as many
+    // cells as `who` or `serve` told.
     pub fn way(&self) -> &[u8]
         ensures { result.now ≡ self.now.way.items }
     {
@@ -142,13 +142,13 @@ impl Desk {
 
     // Who has won: the side that has connected, or nobody.
     pub fn winner(&self) -> Option<Side>
-        ensures connected { MatchOption result (games.Won (desk_game self.now) → ⊥) (λ side. Connects (desk_game self.now).board (number side)) }
+        ensures connected { Outcome (desk_game self.now) result }
         ensures by_moves { won_by result ≡ winner_of self.now.game.size.n (desk_game self.now).moves }
     {
         self.game.winner()
     }
 
-    // How many cells are empty: as many as moves are left to make.
+    // How many cells are empty.
     pub fn empty_cells(&self) -> u16
         ensures { result ≡ empties (desk_game self.now).board.cells }
     {

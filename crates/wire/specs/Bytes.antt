@@ -2,11 +2,14 @@
 use Rattle.std.specs.Prelude.{◌≡◌, ℕ, ◌+◌, ◌*◌, ◌/◌, ◌%◌, ◌<◌, ◌≤◌, List, [], ◌∷◌, ◌++◌, length, take, drop, Some, None, Ok, Err, Option, Result}
 use Rattle.std.specs.Borrow.{Bor}
 use Rattle.std.specs.List.{flat_map}
+use Rattle.hexboard.specs.Games as games
+use Rattle.hexboard.specs.Sides as sides
 use Rattle.hexboard.specs.declared.side.Side.{Side}
 use Rattle.wire.specs.declared.answer.Answer.TheVariants.{Way}
 use Rattle.wire.specs.declared.answer.Unwritten.{Unwritten}
 use Rattle.wire.specs.declared.answer.Unwritten.TheVariants.{Short, NotCells}
 use Rattle.wire.specs.declared.call.Call.{Call}
+use Rattle.wire.specs.Formal.{told}
 use Rattle.wire.specs.Numbers.{Numbered, call_numbers, way_numbers, InBytes, answer_numbers, Sound}
 
 -- a number in two bytes, low byte first; the high one is a byte for every number below 65,536
@@ -20,12 +23,16 @@ in_bytes c = c.number ∷ flat_map two c.values
 abbrev pub call_bytes : Call → List ℕ
 call_bytes c = in_bytes (call_numbers c)
 
+-- an answer of the rules, and one of the code
+abbrev pub shown : games.Answer → List ℕ
+shown a = in_bytes (answer_numbers a)
+
 abbrev pub answer_bytes : InBytes → List ℕ
-answer_bytes a = in_bytes (answer_numbers a)
+answer_bytes a = shown (told a)
 
 -- the head of a way, which its cells follow
 abbrev pub way_head : Side → ℕ → List ℕ
-way_head side count = in_bytes (way_numbers side count [])
+way_head side count = in_bytes (way_numbers (sides.number side) count [])
 
 -- The bytes bs are put at the front of old: it becomes new, which has the rest as it was, and size is how many they are.
 -- If there is no room for them, nothing is written.

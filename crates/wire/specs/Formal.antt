@@ -1,5 +1,5 @@
 -- The calls and answers of the code as those that the promises of the game speak of.
-use Rattle.std.specs.Prelude.{ℕ, length}
+use Rattle.std.specs.Prelude.{ℕ, List, []}
 use Rattle.hexboard.specs.Games as games
 use Rattle.hexboard.specs.Sides as sides
 use Rattle.hexboard.specs.Words.{words}
@@ -15,7 +15,7 @@ asked Back = games.back
 asked Who = games.who
 asked CanForce = games.can_force
 
--- the answer of the game that an answer is
+-- the answer of the game that an answer is; the cells of a way are those that its bytes give
 abbrev pub told : InBytes → games.Answer
 told (Refused why) = games.refused (reason why).number (reason why).place
 told (Number n) = games.number n
@@ -24,11 +24,11 @@ told (Yes cell) = games.yes (next_of cell)
 told No = games.no
 told TooMany = games.too_many
 
--- how many cells an answer names as a way
-abbrev pub way_length : games.Answer → ℕ
-way_length (games.refused r p) = 0
-way_length (games.number n) = 0
-way_length (games.way s w) = length w
-way_length (games.yes next) = 0
-way_length games.no = 0
-way_length games.too_many = 0
+-- the cells that an answer shows: those of its way, if it has one
+abbrev pub shown_by : games.Answer → List ℕ
+shown_by (games.refused r p) = []
+shown_by (games.number n) = []
+shown_by (games.way s w) = w
+shown_by (games.yes next) = []
+shown_by games.no = []
+shown_by games.too_many = []

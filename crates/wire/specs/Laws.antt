@@ -6,7 +6,7 @@ use Rattle.hexboard.specs.Words.{words}
 use Rattle.wire.specs.Numbers.{InBytes}
 use Rattle.wire.specs.Bytes.{two, call_bytes, answer_bytes}
 use Rattle.wire.specs.Reading.{read, Understood}
-use Rattle.wire.specs.Formal.{told, way_length}
+use Rattle.wire.specs.Formal.{told, shown_by}
 
 -- Reading what a call is written as gives that call.
 unfoldable pub CallComesBack : Type 0
@@ -26,7 +26,7 @@ OneAnswer = (a b : InBytes) → (answer_bytes a ≡ answer_bytes b → told a �
 
 -- Two bytes for each cell of a board and 8 more have room for every answer, if a way has no more cells than the board.
 unfoldable pub RoomEnough : Type 0
-RoomEnough = (a : InBytes) (cells : ℕ) → way_length (told a) ≤ cells → length (answer_bytes a) ≤ 2 * cells + 8
+RoomEnough = (a : InBytes) (cells : ℕ) → length (shown_by (told a)) ≤ cells → length (answer_bytes a) ≤ 2 * cells + 8
 
 -- Cells that are written in two bytes each are read again, and the bytes that cells are read from are those that they are written in.
 unfoldable pub CellsComeBack : Type 0

@@ -1,9 +1,7 @@
--- The numbers of calls, answers and refusals, and the values that each case holds. Every promise takes them from here.
+-- The numbers of calls, answers and refusals, and the values that each case holds: what code, bytes and promises have them from.
 use Rattle.std.specs.Prelude.{◌≡◌, ℕ, ◌+◌, ◌%◌, ◌^◌, ◌<◌, List, [], ◌∷◌, length, Some, None, Option, Result, MatchResult, ◌≢◌}
 use Rattle.std.specs.Borrow.{Bor}
-use Rattle.hexboard.specs.Sides as sides
-use Rattle.hexboard.specs.Words.{words}
-use Rattle.hexboard.specs.declared.side.Side.{Side}
+use Rattle.hexboard.specs.Games as games
 use Rattle.wire.specs.declared.answer.Answer.{Answer}
 use Rattle.wire.specs.declared.answer.Answer.TheVariants.{Refused, Number, Way, Yes, No, TooMany}
 use Rattle.wire.specs.declared.call.Call.{Call}
@@ -44,9 +42,18 @@ call_numbers Back = record { number = 1; values = [] }
 call_numbers Who = record { number = 2; values = [] }
 call_numbers CanForce = record { number = 3; values = [] }
 
--- a way of a side: how many cells, and the cells
-abbrev pub way_numbers : Side → ℕ → List ℕ → Numbered
-way_numbers side count ws = record { number = 2; values = sides.number side ∷ (count ∷ ws) }
+-- a way: its side, how many cells, and the cells
+abbrev pub way_numbers : ℕ → ℕ → List ℕ → Numbered
+way_numbers s count w = record { number = 2; values = s ∷ (count ∷ w) }
+
+-- an answer of the rules: the one after a yes is one more than a cell, or 0
+abbrev pub answer_numbers : games.Answer → Numbered
+answer_numbers (games.refused r p) = record { number = 0; values = r ∷ (p ∷ []) }
+answer_numbers (games.number n) = record { number = 1; values = n ∷ [] }
+answer_numbers (games.way s w) = way_numbers s (length w) w
+answer_numbers (games.yes next) = record { number = 3; values = next ∷ [] }
+answer_numbers games.no = record { number = 4; values = [] }
+answer_numbers games.too_many = record { number = 5; values = [] }
 
 -- one more than a cell; 0 for none
 abbrev pub next_of : Option ℕ → ℕ
@@ -56,15 +63,6 @@ next_of (Some cell) = cell + 1
 -- an answer whose cells of a way are bytes, two a cell
 abbrev pub InBytes : Type 0
 InBytes = Answer (Bor (List ℕ))
-
--- the cells of a way are those that its bytes give
-abbrev pub answer_numbers : InBytes → Numbered
-answer_numbers (Refused why) = record { number = 0; values = (reason why).number ∷ ((reason why).place ∷ []) }
-answer_numbers (Number n) = record { number = 1; values = n ∷ [] }
-answer_numbers (Way side cells) = way_numbers side (length (words cells.now)) (words cells.now)
-answer_numbers (Yes cell) = record { number = 3; values = next_of cell ∷ [] }
-answer_numbers No = record { number = 4; values = [] }
-answer_numbers TooMany = record { number = 5; values = [] }
 
 -- bytes that can be a way's cells: two a cell, and no more cells than two bytes can count
 pub record Row (bs : List ℕ) : Type 0 where

@@ -34,7 +34,7 @@ pub enum Answer<W> {
 pub enum Unwritten {
     // There is no room for it.
     Short,
-    // The bytes of a way are no cells: they are odd in number, or more than two bytes can count. Or one more than the cell of a yes
+    // The bytes of a way are no cells: they are odd in number, or more cells than two bytes can count. Or one more than the cell of a yes
     // is more than two bytes can hold.
     NotCells,
 }
