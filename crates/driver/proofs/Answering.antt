@@ -1,5 +1,5 @@
 -- What the parts of serving a line say, put together as what a line is answered by.
-use Rattle.std.proofs.Common.{◌≡◌, ℕ, List, ◌++◌, IfOk, Ok, Err, None, refl, codes, decimal, Result, ⊎_elim, ◌+◌, [], ◌∷◌, take, sym, ap, ◌∙◌}
+use Rattle.std.proofs.Common.{◌≡◌, ℕ, List, ◌++◌, IfOk, Ok, Err, None, refl, codes, decimal, Result, ⊎_elim, inl, inr, ◌+◌, [], ◌∷◌, take, sym, ap, ◌∙◌}
 use Rattle.std.proofs.lemmas.List.{flat_map_more}
 use Rattle.std.specs.List.{flat_map}
 use Rattle.hexboard.specs.Games as games
@@ -9,8 +9,9 @@ use Rattle.text.specs.Lines.{Asks, Says}
 use Rattle.text.specs.Readings.{Reads}
 use Rattle.text.specs.declared.reading.Line.{Line}
 use Rattle.text.specs.declared.reading.Line.TheVariants as line
-use Rattle.driver.specs.Served.{Reopened, Called, Next, First, Told}
+use Rattle.driver.specs.Served.{Reopened, LeftByBoard, Called, LeftByCall, Next, First, Told, LeftByLine}
 use Rattle.driver.specs.declared.served.Served.{Served}
+use Rattle.driver.specs.declared.served.Served.TheVariants.{Taken}
 use Rattle.driver.specs.declared.times.Kind.{Kind}
 use Rattle.driver.specs.declared.limits.Limits.{Limits}
 
@@ -29,6 +30,16 @@ called_next limits bytes call g h served before after says =
     (⊎_elim
     (λ far. (line_of games.too_many, far.3, rw (far.1, far.2) (Next.beyond call says far.0)))
     (λ not'. (codes "refused 1 at " ++ decimal 0, not'.3, rw (not'.1, not'.2) (Next.unserved call says not'.0))))
+
+-- what a new board, or a call, leaves is what its line leads to
+pub left_by_board : (limits : Limits) (n : ℕ) (bytes : List ℕ) (g h : games.Game) → Asks bytes (line.Board n) → LeftByBoard limits n g h → LeftByLine limits bytes g h
+left_by_board limits n bytes g h asks = ⊎_elim (λ same. inl same) (λ new. inr (codes "board " ++ decimal n, Taken, rw new.1 (Next.opened n asks new.0)))
+
+pub left_by_call : (limits : Limits) (call : Call) (bytes : List ℕ) (g h : games.Game) → Says bytes call → LeftByCall limits call g h → LeftByLine limits bytes g h
+left_by_call limits call bytes g h says =
+    ⊎_elim
+    (λ same. inl same)
+    (λ left. let (a, right, short) = left.2 in inr (_, _, Next.answered call a says left.0 left.1 right short))
 
 -- what holds of all that was made holds of what follows from it
 pub made_more : {X Y : Type 0} {P Q : X → Type 0} (r : Result X Y) → ((x : X) → P x → Q x) → IfOk r P → IfOk r Q

@@ -61,6 +61,11 @@ Called limits call g h served before after =
     ⊎ ((Beyond limits g call × (h ≡ g) × (served ≡ Taken) × (after ≡ before ++ line_of games.too_many))
     ⊎ (Unserved limits call × (h ≡ g) × (served ≡ Refused) × (after ≡ before ++ (codes "refused 1 at " ++ decimal 0))))
 
+-- whether or not there was memory to write the answer: the game is as it was, or as an answer leaves it that the program gives to the call
+abbrev pub LeftByCall : Limits → Call → games.Game → games.Game → Type 0
+LeftByCall limits call g h =
+    (h ≡ g) ⊎ ((Unserved limits call → ⊥) × (Beyond limits g call → ⊥) × ((a : games.Answer) × games.Right g (asked call) a h × Short g.board a))
+
 -- On the board of game g, the line of these bytes leads to a game, is answered by a line, and is taken or refused.
 pub data Next (limits : Limits) (bytes : List ℕ) (g : games.Game) : games.Game → List ℕ → Served → Type 0 where
   opened : (n : ℕ) → Asks bytes (line.Board n) → ServedSize limits n → Next limits bytes g (games.new_game n) (codes "board " ++ decimal n) Taken
@@ -75,6 +80,10 @@ pub data Next (limits : Limits) (bytes : List ℕ) (g : games.Game) : games.Game
 -- such a line is written behind what was there
 abbrev pub Told : Limits → List ℕ → games.Game → games.Game → Served → List ℕ → List ℕ → Type 0
 Told limits bytes g h served before after = (added : List ℕ) × (after ≡ before ++ added) × Next limits bytes g h added served
+
+-- whether or not there was memory to write it: the game is as it was, or as the line leads to
+abbrev pub LeftByLine : Limits → List ℕ → games.Game → games.Game → Type 0
+LeftByLine limits bytes g h = (h ≡ g) ⊎ ((added : List ℕ) × (served : Served) × Next limits bytes g h added served)
 
 -- what opening a board of size n gives
 abbrev pub Opens : Limits → ℕ → Option Desk → Type 0
@@ -107,8 +116,18 @@ Reopened limits n g h served before after =
     (ServedSize limits n × (h ≡ games.new_game n) × (served ≡ Taken) × (after ≡ before ++ (codes "board " ++ decimal n)))
     ⊎ ((ServedSize limits n → ⊥) × (h ≡ g) × (served ≡ Refused) × (after ≡ before ++ line_of (games.refused 3 0)))
 
+-- whether or not there was memory to write the line: the game is as it was, or that of a new board
+abbrev pub LeftByBoard : Limits → ℕ → games.Game → games.Game → Type 0
+LeftByBoard limits n g h = (h ≡ g) ⊎ (ServedSize limits n × (h ≡ games.new_game n))
+
 -- a line, with the board there was or none; what is written after what was there, the board there is then, and whether it was taken
 abbrev pub LineServed : Limits → List ℕ → Option Desk → Option Desk → Served → List ℕ → List ℕ → Type 0
 LineServed limits bytes None e served before after = (served ≡ first_served e) × ToldFirst limits bytes e before after
 LineServed limits bytes (Some d) None served before after = ⊥
 LineServed limits bytes (Some d) (Some e) served before after = Told limits bytes (desk_game d) (desk_game e) served before after
+
+-- whether or not there was memory to write it: the board is as it was, or as the line leads to; one that there was is never lost
+abbrev pub Left : Limits → List ℕ → Option Desk → Option Desk → Type 0
+Left limits bytes None e = (e ≡ None) ⊎ ((added : List ℕ) × First limits bytes e added)
+Left limits bytes (Some d) None = ⊥
+Left limits bytes (Some d) (Some e) = LeftByLine limits bytes (desk_game d) (desk_game e)

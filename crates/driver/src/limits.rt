@@ -6,8 +6,8 @@ ghost use Rattle.driver.specs.Served.{Beyond, Unserved};
 use session::Desk;
 use wire::Call;
 
-// The largest board that a program serves, and the most empty cells of an end that it looks through. With none for the ends, can
-// force is no call of the program.
+// The largest board that a program serves, and the most empty cells of an end that it looks through, as far as a desk goes: its boards
+// are at most 19 wide, and its ends have at most 16 empty cells. With none for the ends, can force is no call of the program.
 #[derive(Clone, Copy)]
 pub struct Limits {
     pub largest: u16,

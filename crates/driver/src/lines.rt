@@ -1,7 +1,7 @@
 // One line in, one line out.
 ghost use Rattle.std.specs.Prelude.{◌≡◌, ◌++◌, IfOk, string_bytes, codes, decimal, OnOk};
 ghost use Rattle.session.specs.Desks.{desk_game};
-ghost use Rattle.driver.specs.Served.{trimmed, first_served, Opens, opening, Reopened, Called, Told, ToldFirst, LineServed};
+ghost use Rattle.driver.specs.Served.{trimmed, first_served, Opens, opening, Reopened, LeftByBoard, Called, LeftByCall, Told, LeftByLine, ToldFirst, LineServed, Left};
 
 use crate::failed::Failed;
 use crate::limits::Limits;
@@ -35,7 +35,7 @@ fn open(heap: Global, limits: Limits, n: u16) -> Result<Option<Desk>, Failed>
 }
 
 // A line before the first board: only `board N` is served. There is no desk to call yet, and what is promised differs, so this and what it
-// calls stand apart from `next_line`. The allocator, the limits, the desk, the line and the text belong to five others, and are no struct.
+// calls stand apart from `next_line`.
 pub fn first_line(
     heap: Global,
     limits: Limits,
@@ -64,7 +64,7 @@ fn open_first(
 {
     match open(heap, limits, n)? {
         Some(desk) => {
-            // Told by the line that asked for it.
+            // Told as the line that asks for it is written.
             write!(out, "{}", Line::Board(n))?;
             Ok(Some(desk))
         }
@@ -75,7 +75,8 @@ fn open_first(
     }
 }
 
-// A line on the board there is.
+// A line on the board there is. The allocator, the limits, the desk, the line and the text belong to five others, and are no struct.
+// Where there is no memory for the text, no board is lost: the game is as it was, or as the line leads to.
 pub fn next_line(
     heap: Global,
     limits: Limits,
@@ -83,7 +84,8 @@ pub fn next_line(
     line: &[u8],
     out: &mut String,
 ) -> Result<Served, Failed>
-    ensures { IfOk result (λ served. Told limits line.now (desk_game desk.old) (desk_game desk.new) served (string_bytes out.old) (string_bytes out.new)) }
+    ensures told { IfOk result (λ served. Told limits line.now (desk_game desk.old) (desk_game desk.new) served (string_bytes out.old) (string_bytes out.new)) }
+    ensures left { LeftByLine limits line.now (desk_game desk.old) (desk_game desk.new) }
 {
     match read_line(line) {
         Ok(Line::Board(n)) => reopen(heap, limits, n, desk, out),
@@ -95,10 +97,11 @@ pub fn next_line(
     }
 }
 
-// A call on the board there is. A call that the program does not serve cannot be read, and an end that is too long for it is not
-// looked into.
+// A call on the board there is. One that the program does not serve is refused as a line that cannot be read, and an end that is too
+// long for it is not looked into.
 fn serve(limits: Limits, desk: &mut Desk, call: Call, out: &mut String) -> Result<Served, Failed>
-    ensures { IfOk result (λ served. Called limits call (desk_game desk.old) (desk_game desk.new) served (string_bytes out.old) (string_bytes out.new)) }
+    ensures told { IfOk result (λ served. Called limits call (desk_game desk.old) (desk_game desk.new) served (string_bytes out.old) (string_bytes out.new)) }
+    ensures left { LeftByCall limits call (desk_game desk.old) (desk_game desk.new) }
 {
     if limits.leaves_out(call) {
         write_unreadable(out, 0)?;
@@ -121,7 +124,8 @@ fn reopen(
     desk: &mut Desk,
     out: &mut String,
 ) -> Result<Served, Failed>
-    ensures { IfOk result (λ served. Reopened limits n (desk_game desk.old) (desk_game desk.new) served (string_bytes out.old) (string_bytes out.new)) }
+    ensures told { IfOk result (λ served. Reopened limits n (desk_game desk.old) (desk_game desk.new) served (string_bytes out.old) (string_bytes out.new)) }
+    ensures left { LeftByBoard limits n (desk_game desk.old) (desk_game desk.new) }
 {
     match open(heap, limits, n)? {
         Some(opened) => {
@@ -144,7 +148,8 @@ pub fn answer_line(
     line: &[u8],
     out: &mut String,
 ) -> Result<Served, Failed>
-    ensures { IfOk result (λ served. LineServed limits (trimmed line.now) desk.old desk.new served (string_bytes out.old) (string_bytes out.new)) }
+    ensures told { IfOk result (λ served. LineServed limits (trimmed line.now) desk.old desk.new served (string_bytes out.old) (string_bytes out.new)) }
+    ensures left { Left limits (trimmed line.now) desk.old desk.new }
 {
     let line = without_return(line);
     match desk {

@@ -4,10 +4,11 @@ use Rattle.ranking.specs.Sets.{bit}
 use Rattle.endgame.specs.Floods.{Weighs}
 use Rattle.endgame.specs.declared.links.Links.{Links}
 use Rattle.endgame.specs.declared.search.Position.{Position}
+use Rattle.endgame.specs.declared.search.TheConstants.{CELLS}
 
 -- the stones of a set that stand on cells of the end
 abbrev pub laid : ℕ → ℕ
-laid stones = bit_and stones 65535
+laid stones = bit_and stones CELLS
 
 -- cell k weighs w for both sides together
 abbrev pub WeighsBoth : Links → Links → Position → ℕ → ℕ → Type 0

@@ -1,4 +1,4 @@
-// Ends of games looked through: whether the side to move can bring about that it connects, and by which move.
+// Ends of games looked through: whether the side to move can force that it connects, and by which move.
 #![tactic(auto)]
 
 mod links;

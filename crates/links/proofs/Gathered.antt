@@ -11,7 +11,7 @@ use Rattle.hexboard.proofs.Given.{over_end, over_met}
 use Rattle.groups.specs.Forest.{root}
 use Rattle.groups.proofs.Placing.{stone_here}
 use Rattle.ranking.specs.Sets.{bit}
-use Rattle.ranking.proofs.Bits.{bit_none, bit_one, in_or, or_left, or_right}
+use Rattle.ranking.proofs.Bits.{bit_none, own_bit, only_bit, in_or, or_left, or_right}
 use Rattle.links.specs.Gathering.{enter, entered_at, entered_all, gathered, joined_at, by_root}
 
 pub gathered_none : (b : Board) (w : ℕ) (ps es : List ℕ) → replicate 361 0 ≡ gathered b w ps es 0
@@ -78,13 +78,6 @@ module _ {S : Type 0} (look : Option ℕ → S → S) (next : ℕ → Option ℕ
       (λ same. subst (λ o. P (look o (over look next m s))) (sym (ap next (sym same) ∙ e)) (brings m))
       (λ apart. keeps (next m) _ (over_new keeps m s (d, omega arith, e) brings))
       (cases_eq d m)
-
--- k is in the set of k alone, and nothing else is
-pub own_bit : (k : ℕ) → bit k (2 ^ k) ≡ 1
-own_bit k = ⊎_elim (λ p. p.1) (λ p. absurd (p.0 refl)) (bit_one k k)
-
-pub only_bit : (k j : ℕ) → bit j (2 ^ k) ≡ 1 → j ≡ k
-only_bit k j h = ⊎_elim (λ p. p.0) (λ p. absurd (omega (arith, p.1))) (bit_one k j)
 
 -- Once k has come into the set at place r, that at place q is as it was, or q is r and it has k too.
 entered : (k r : ℕ) (sets : List ℕ) (q : ℕ) →

@@ -15,14 +15,14 @@ use Rattle.groups.proofs.Marks.{Has}
 use Rattle.groups.proofs.Positions.{Holds, legal_sound, board_cells, board_good, board_laid}
 use Rattle.groups.proofs.Ways.{first_bit, last_bit}
 use Rattle.ranking.specs.Sets.{bit}
-use Rattle.ranking.proofs.Bits.{bit_none, in_or, or_left, or_right}
+use Rattle.ranking.proofs.Bits.{bit_none, own_bit, only_bit, in_or, or_left, or_right}
 use Rattle.endgame.specs.declared.links.Links.{Links}
 use Rattle.endgame.specs.Ends.{Numbered}
 use Rattle.links.specs.Gathering.{gathered, near_at, borders_at}
 use Rattle.endgame.specs.Linked.{Linked, Bound}
 use Rattle.endgame.specs.Linked.{Holds as SetOf}
 use Rattle.links.specs.Prepared.{Prepared}
-use Rattle.links.proofs.Gathered.{nothing, own_bit, only_bit}
+use Rattle.links.proofs.Gathered.{nothing}
 use Rattle.links.proofs.Ties.{near_only, near_all, bound_only, bound_all}
 
 -- a side has number 1 or 2

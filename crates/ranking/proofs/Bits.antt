@@ -60,6 +60,12 @@ bit_one k j =
     let none : bit j 0 ≡ 0 = bit_none j in
     ⊎_elim (λ p. inl (p.0, rw alone at p.1)) (λ p. inr (p.0, (rw alone at p.1) ∙ none)) (bit_more k 0 (bit_none k) j)
 
+pub own_bit : (k : ℕ) → bit k (2 ^ k) ≡ 1
+own_bit k = ⊎_elim (λ p. p.1) (λ p. absurd (p.0 refl)) (bit_one k k)
+
+pub only_bit : (k j : ℕ) → bit j (2 ^ k) ≡ 1 → j ≡ k
+only_bit k j h = ⊎_elim (λ p. p.0) (λ p. absurd (omega (arith, p.1))) (bit_one k j)
+
 -- sets of cells below e are equal if each cell is in both or in neither
 pub same_set : (e x y : ℕ) → x < 2 ^ e → y < 2 ^ e → ((k : ℕ) → bit k x ≡ bit k y) → x ≡ y
 unfolding bit

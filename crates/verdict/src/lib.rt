@@ -1,4 +1,4 @@
-// Whether the side to move can bring about that it connects, at the end of a game, and by which move.
+// Whether the side to move can force that it connects, at the end of a game, and by which move.
 #![tactic(auto)]
 
 mod verdict;

@@ -1,4 +1,4 @@
-// Whether a side to move can bring about that it connects, and by which move, in a position with few empty cells.
+// Whether a side to move can force that it connects, and by which move, in a position with few empty cells.
 ghost use Rattle.std.specs.Prelude.{◌≡◌, ◌-◌, ◌*◌, ◌^◌, ◌<◌, ◌≤◌, length};
 ghost use Rattle.hexboard.specs.Board.{empties};
 ghost use Rattle.hexboard.specs.Sides.{number};
@@ -12,8 +12,8 @@ use hexboard::{Side, Size};
 use links::Grouped;
 use ranking::{Ranking, one};
 
-// Yes, by a move to this cell; no; or that too many cells are empty to look through the end. No is an answer, and
-// too many none that fails, so this is no Result; as an Option in an Option it would not say which of the two is missing.
+// Yes, by a move to this cell; no; or that too many cells are empty to look through the end. No is an answer, and too many is no
+// failure, so this is no Result; as an Option in an Option it would not say which of the two is missing.
 #[derive(Clone, Copy, PartialEq, Eq, Debug)]
 pub enum Verdict {
     Yes(u16),
