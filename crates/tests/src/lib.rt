@@ -17,4 +17,6 @@ mod lent;
 #[cfg(test)]
 mod lines;
 #[cfg(test)]
+mod served;
+#[cfg(test)]
 mod ways;
