@@ -1,18 +1,14 @@
 -- Who has won, and the board drawn with a way marked.
-use Rattle.std.proofs.Common.{◌≡◌, ℕ, ◌<◌, Bool, true, false, not, ◌⊎◌, List, is_some, Some, None, Decides, Option, MatchOption, refl, subst, inl, inr, arith}
+use Rattle.std.proofs.Common.{◌≡◌, ℕ, ◌<◌, Bool, true, false, not, List, is_some, Some, None, Decides, Option, MatchOption, refl, subst, arith}
+use Rattle.hexboard.proofs.Boards.{side_number}
 use Rattle.hexboard.specs.Games as games
 use Rattle.hexboard.specs.Sides.{number}
 use Rattle.hexboard.specs.declared.side.Side.{Side}
-use Rattle.hexboard.specs.declared.side.Side.TheVariants.{One, Two}
 use Rattle.wire.specs.Formal.{shown_by}
 use Rattle.session.specs.Desks.{Outcome}
 use Rattle.session.specs.Short.{Short}
 use Rattle.driver.specs.Drawn.{Drawn, Marked}
 use Rattle.driver.specs.Served.{TooLong}
-
-one_or_two : (side : Side) → (number side ≡ 1) ⊎ (number side ≡ 2)
-one_or_two One = inl refl
-one_or_two Two = inr refl
 
 -- nobody is told as the winner just if nobody has won
 pub open_if_nobody : (g : games.Game) (winner : Option Side) (r : Bool) → is_some winner ≡ not r → Outcome g winner → Decides r (games.Won g → ⊥)
@@ -20,7 +16,7 @@ open_if_nobody g None true e open' = (λ _. open', λ _. refl)
 open_if_nobody g None false e open' = let z : ◌≡◌ {A = ℕ} 0 1 = cc in absurd (omega arith)
 open_if_nobody g (Some side) true e connects = let z : ◌≡◌ {A = ℕ} 0 1 = cc in absurd (omega arith)
 open_if_nobody g (Some side) false e connects =
-    (λ t. let z : ◌≡◌ {A = ℕ} 0 1 = cc in absurd (omega arith), λ open'. absurd (open' (games.won (number side) (one_or_two side) connects)))
+    (λ t. let z : ◌≡◌ {A = ℕ} 0 1 = cc in absurd (omega arith), λ open'. absurd (open' (games.won (number side) (side_number side) connects)))
 
 -- asking who has connected leaves the game as it is
 pub who_keeps : {g h : games.Game} {c : games.Call} {a : games.Answer} → games.Right g c a h → c ≡ games.who → h ≡ g

@@ -14,6 +14,10 @@ pub number_few : (s : Side) → (0 < number s) × (number s < 3)
 number_few One = (lit< tt, lit< tt)
 number_few Two = (lit< tt, lit< tt)
 
+pub side_number : (s : Side) → (number s ≡ 1) ⊎ (number s ≡ 2)
+side_number One = inl refl
+side_number Two = inr refl
+
 -- Who plays against a side is a side.
 pub other_side : (s : ℕ) → (s ≡ 1) ⊎ (s ≡ 2) → (other s ≡ 1) ⊎ (other s ≡ 2)
 other_side s (inl e) = inr (omega arith)

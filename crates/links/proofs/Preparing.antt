@@ -1,14 +1,11 @@
 -- The links of a side, prepared cell by cell: what the loop keeps, and that they tell what the stones make of the empty cells.
-use Rattle.std.proofs.Common.{◌≡◌, ℕ, ◌+◌, ◌/◌, ◌%◌, ◌^◌, ◌<◌, ◌≤◌, Bool, true, false, eqb, ◌⊎◌, Decides, List, length, get_or, set, replicate, sym, refl, ap, ◌∙◌, subst, subst₂, inl, inr, ⊎_elim, mul-le-mul, arith}
+use Rattle.std.proofs.Common.{◌≡◌, ℕ, ◌+◌, ◌/◌, ◌%◌, ◌^◌, ◌<◌, ◌≤◌, Bool, true, false, eqb, ◌⊎◌, Decides, List, length, get_or, set, replicate, sym, refl, ap, ◌∙◌, subst, subst₂, ⊎_elim, mul-le-mul, arith}
 use lib.Bits.{bit_or}
 use Rattle.std.proofs.lemmas.List.{length-set, get_or-set_same, get_or-set_other}
 use Rattle.std.proofs.lemmas.Bool.{cases_eq, cases_lt, eqb-true, eq-eqb, both_ways}
 use Rattle.hexboard.specs.Board.{pick, Board, begins, ends}
 use Rattle.hexboard.specs.Geometry.{laid, touch}
 use Rattle.hexboard.specs.Promise.{Good}
-use Rattle.hexboard.specs.Sides.{number}
-use Rattle.hexboard.specs.declared.side.Side.{Side}
-use Rattle.hexboard.specs.declared.side.Side.TheVariants.{One, Two}
 use Rattle.groups.specs.Forest.{Forest, held}
 use Rattle.groups.specs.Moves.{board_of, forest_of}
 use Rattle.groups.proofs.Marks.{Has}
@@ -24,11 +21,6 @@ use Rattle.endgame.specs.Linked.{Holds as SetOf}
 use Rattle.links.specs.Prepared.{Prepared}
 use Rattle.links.proofs.Gathered.{nothing}
 use Rattle.links.proofs.Ties.{near_only, near_all, bound_only, bound_all}
-
--- a side has number 1 or 2
-pub side_number : (s : Side) → (number s ≡ 1) ⊎ (number s ≡ 2)
-side_number One = inl refl
-side_number Two = inr refl
 
 -- the set of none of no cells
 set_none : (P : ℕ → Type 0) → SetOf 0 0 P

@@ -1,6 +1,5 @@
 -- Who has connected, and the way that shows it.
-use Rattle.std.proofs.Common.{◌≡◌, ℕ, ◌*◌, List, length, take, Some, None, Option, sym, ap, ◌∙◌, subst, arith, MatchOption}
-use Rattle.hexboard.specs.Board.{Connects}
+use Rattle.std.proofs.Common.{◌≡◌, ℕ, ◌*◌, List, length, take, Some, None, Option, sym, ap, ◌∙◌, subst, arith}
 use Rattle.hexboard.specs.Geometry.{laid}
 use Rattle.hexboard.specs.Games as games
 use Rattle.hexboard.specs.Sides.{number}

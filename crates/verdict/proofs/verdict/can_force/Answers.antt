@@ -1,11 +1,10 @@
 use Rattle.std.proofs.Common.{◌-◌, ◌^◌, ◌≤◌, Some, length, get_or, sym, ap, subst, arith}
 use Rattle.std.proofs.lemmas.List.{length-take-le}
-use Rattle.hexboard.proofs.Boards.{empties_few}
+use Rattle.hexboard.proofs.Boards.{side_number, empties_few}
 use Rattle.hexboard.specs.Board.{other}
 use Rattle.hexboard.specs.Sides.{number}
 use Rattle.ranking.proofs.Bits.{cell_below}
 use Rattle.links.specs.Prepared.{Prepared}
-use Rattle.links.proofs.Preparing.{side_number}
 use Rattle.endgame.specs.declared.search.Found.{Found}
 use Rattle.endgame.specs.declared.search.Found.TheVariants.{Won, Lost}
 use Rattle.endgame.specs.Searched.{Looked}

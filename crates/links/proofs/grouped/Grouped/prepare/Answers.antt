@@ -2,7 +2,8 @@ use Rattle.std.proofs.Common.{◌≡◌, length, get_or, ap, ◌∙◌, subst₂
 use Rattle.hexboard.specs.Sides.{number}
 use Rattle.links.specs.Gathering.{near_at, borders_at}
 use Rattle.links.specs.Grouped.{board, parents}
-use Rattle.links.proofs.Preparing.{Preparing, preparing_none, preparing_more, prepared, side_number}
+use Rattle.hexboard.proofs.Boards.{side_number}
+use Rattle.links.proofs.Preparing.{Preparing, preparing_none, preparing_more, prepared}
 use Rattle.links.proofs.grouped.Grouped.prepare.Goals as goal
 
 pub loop-k-init : goal.loop-k-init
