@@ -1,4 +1,4 @@
-// Boards: which cells are next to each other, what touches a border, and stones that come and go.
+// Boards: which cells are next to each other, what touches a border, and which stones come first.
 use hexboard::{Neighbours, NoSide, Side, Size};
 use std::test::Fail;
 
@@ -55,8 +55,8 @@ fn corners(rt: HostRuntime) -> Result<(), Fail> {
 #[test]
 fn one_cell_touches_all_borders(rt: HostRuntime) {
     let size = Size::new(1).unwrap();
-    assert_eq!(rt; hexboard::borders(size, Side::One, 0), 3);
-    assert_eq!(rt; hexboard::borders(size, Side::Two, 0), 3);
+    assert!(rt; hexboard::borders(size, Side::One, 0) == 3);
+    assert!(rt; hexboard::borders(size, Side::Two, 0) == 3);
 }
 
 #[test]
@@ -66,10 +66,10 @@ fn first_two(rt: HostRuntime) -> Result<(), Fail> {
     hexboard::place(&mut cells, Side::One, 8)?;
     hexboard::place(&mut cells, Side::Two, 4)?;
     hexboard::place(&mut cells, Side::One, 0)?;
-    assert_eq!(rt; hexboard::first_pair(size, &cells), None);
+    assert!(rt; hexboard::first_pair(size, &cells) == None);
     hexboard::place(&mut cells, Side::Two, 6)?;
-    assert_eq!(rt; hexboard::first_pair(size, &cells), Some((4, 6)));
-    assert_eq!(rt; hexboard::count_empty(&cells), 5);
+    assert!(rt; hexboard::first_pair(size, &cells) == Some((4, 6)));
+    assert!(rt; hexboard::count_empty(&cells) == 5);
     Ok(())
 }
 

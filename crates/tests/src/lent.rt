@@ -6,7 +6,7 @@ use std::alloc::{AllocError, Global};
 use std::test::Fail;
 use wire::Refusal;
 
-// What opening in memory of so many bytes is refused for, with the memory as it was.
+// What opening a board n wide in this memory is refused for, with the memory as it was.
 fn closed(n: u16, memory: &mut [u8]) -> Result<Refusal, Fail> {
     // Not by `err()`, which the borrow checker does not cover where the `Ok` that it drops holds several `&mut`.
     let Err(Closed { why, memory }) = open(n, memory) else {

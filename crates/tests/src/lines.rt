@@ -48,11 +48,14 @@ fn writes_lines(rt: HostRuntime) -> Result<(), Fail> {
     Ok(())
 }
 
-static ANSWERS: [(Answer<&[u8]>, &str); 5] = [
+static ANSWERS: [(Answer<&[u8]>, &str); 8] = [
     (Answer::Refused(Refusal::Unreadable(9)), "refused 1 at 9"),
+    (Answer::Refused(Refusal::SmallMemory), "refused 3 at 1"),
+    (Answer::Number(7), "7"),
     (Answer::Way(Side::Two, &[3, 0, 4, 1]), "way 2: 3 260"),
     (Answer::Yes(None), "yes"),
     (Answer::Yes(Some(4)), "yes 4"),
+    (Answer::No, "no"),
     (Answer::TooMany, "too many"),
 ];
 
@@ -78,7 +81,7 @@ fn no_refusals_line(rt: HostRuntime) -> Result<(), Fail> {
     Ok(())
 }
 
-// A board with a cell too few, whose last is drawn as empty; on the way are a stone of side 1, another, and an empty cell.
+// A board with a cell too few, whose last is drawn as empty, and a way of three stones of side 1.
 #[test]
 fn draws_a_board(rt: HostRuntime) -> Result<(), Fail> {
     let size = Size::new(3).ok_or_else(|| Fail::new("no board is 3 wide"))?;

@@ -9,7 +9,7 @@ static WAYS: [(u16, &[u8], Side, Option<&[u8]>); 8] = [
     (1, &[2], Side::Two, Some(&[0])),
     (2, &[1, 2, 2, 1], Side::One, None),
     (2, &[1, 2, 2, 1], Side::Two, Some(&[2, 1])),
-    // The arm on cell 5 touches the way, and leads nowhere.
+    // Cell 5, next to 4 and to 7, would be a detour.
     (3, &[0, 1, 0, 0, 1, 1, 2, 1, 2], Side::One, Some(&[1, 4, 7])),
     // Nobody has connected.
     (3, &[1, 2, 0, 1, 0, 2, 2, 1, 0], Side::One, None),
