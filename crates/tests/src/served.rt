@@ -61,7 +61,10 @@ fn no_ends(rt: HostRuntime) -> Result<(), Fail> {
         ends: None,
     };
     let told = format!(in heap; "{help}")?;
-    assert!(rt; told.as_str().ends_with("Limits: boards from 1 by 1 to 3 by 3; no can force.\n"));
+    assert!(rt;
+        told.as_str()
+            .ends_with("Limits: boards from 1 by 1 to 3 by 3; no can force.\n")
+    );
     Ok(())
 }
 
@@ -75,7 +78,12 @@ fn arguments_of_a_program(rt: HostRuntime) -> Result<(), Fail> {
     let given = [times, show, help];
     let taken = [Flag::Show, Flag::Times];
     assert!(rt; matches!(read_arguments(&given, &taken), Ok(None)));
-    assert!(rt; read_arguments(&given[..2], &taken).is_ok_and(|asked| asked.is_some_and(|asked| asked.show && asked.times)));
-    assert!(rt; read_arguments(&given, &taken[1..]).is_err_and(|argument| argument.as_str() == "--show"));
+    assert!(rt;
+        read_arguments(&given[..2], &taken).is_ok_and(|asked| asked.is_some_and(|asked| asked.show
+            && asked.times))
+    );
+    assert!(rt;
+        read_arguments(&given, &taken[1..]).is_err_and(|argument| argument.as_str() == "--show")
+    );
     Ok(())
 }
