@@ -1,5 +1,5 @@
 // Lines served within the limits of a program, and what its arguments ask for.
-use arguments::{Flag, Help, read_arguments};
+use arguments::{Asked, Flag, Help, read_arguments};
 use driver::{Limits, Served, answer_line};
 use std::test::Fail;
 
@@ -61,10 +61,8 @@ fn no_ends(rt: HostRuntime) -> Result<(), Fail> {
         ends: None,
     };
     let told = format!(in heap; "{help}")?;
-    assert!(rt;
-        told.as_str()
-            .ends_with("Limits: boards from 1 by 1 to 3 by 3; no can force.\n")
-    );
+    let end = "Limits: boards from 1 by 1 to 3 by 3; no can force.\n";
+    assert!(rt; told.as_str().ends_with(end));
     Ok(())
 }
 
@@ -77,13 +75,19 @@ fn arguments_of_a_program(rt: HostRuntime) -> Result<(), Fail> {
     let help = String::from_str(heap, "--help")?;
     let given = [times, show, help];
     let taken = [Flag::Show, Flag::Times];
-    assert!(rt; matches!(read_arguments(&given, &taken), Ok(None)));
+    let all = read_arguments(&given, &taken);
+    assert!(rt; matches!(all, Ok(None)));
+    let both = read_arguments(&given[..2], &taken);
     assert!(rt;
-        read_arguments(&given[..2], &taken).is_ok_and(|asked| asked.is_some_and(|asked| asked.show
-            && asked.times))
+        matches!(
+            both,
+            Ok(Some(Asked {
+                show: true,
+                times: true
+            }))
+        )
     );
-    assert!(rt;
-        read_arguments(&given, &taken[1..]).is_err_and(|argument| argument.as_str() == "--show")
-    );
+    let untaken = read_arguments(&given, &taken[1..]);
+    assert!(rt; untaken.is_err_and(|argument| argument.as_str() == "--show"));
     Ok(())
 }
