@@ -9,7 +9,7 @@ use Rattle.session.specs.Desks.{desk_game}
 use Rattle.session.specs.Short.{Short}
 use Rattle.session.specs.declared.desk.Desk.{Desk}
 use Rattle.wire.specs.Answers.{line_of}
-use Rattle.text.specs.Lines.{Asks, Says, Readable}
+use Rattle.text.specs.Lines.{Asks, Says, Readable, asked_by}
 use Rattle.text.specs.Places.{Stops}
 use Rattle.text.specs.declared.reading.Line.TheVariants as line
 use Rattle.driver.specs.declared.limits.Limits.{Limits}
@@ -19,6 +19,10 @@ use Rattle.driver.specs.declared.served.Served.TheVariants.{Taken, Refused}
 -- the bytes without a carriage return at their end
 abbrev pub trimmed : List ℕ → List ℕ
 trimmed bytes = pick (nat_lt 0 (length bytes) && slice_index bytes (length bytes - 1) == 13) (take (length bytes - 1) bytes) bytes
+
+-- the line that tells that a line cannot be read, and the place of its first byte that does not fit: `refused 1 at 5`
+abbrev pub unreadable_at : ℕ → List ℕ
+unreadable_at p = codes "refused 1 at " ++ decimal p
 
 -- a size that a program serves: none is larger than the desk's own limit
 abbrev pub ServedSize : Limits → ℕ → Type 0
@@ -59,7 +63,7 @@ abbrev pub Called : Limits → Call → games.Game → games.Game → Served →
 Called limits call g h served before after =
     ((Unserved limits call → ⊥) × (Beyond limits g call → ⊥) × ((a : games.Answer) × (after ≡ before ++ line_of a) × (served ≡ answer_is_taken a) × games.Right g (asked call) a h × Short g.board a))
     ⊎ ((Beyond limits g call × (h ≡ g) × (served ≡ Taken) × (after ≡ before ++ line_of games.too_many))
-    ⊎ (Unserved limits call × (h ≡ g) × (served ≡ Refused) × (after ≡ before ++ (codes "refused 1 at " ++ decimal 0))))
+    ⊎ (Unserved limits call × (h ≡ g) × (served ≡ Refused) × (after ≡ before ++ unreadable_at 0)))
 
 -- whether or not there was memory to write the answer: the game is as it was, or as an answer leaves it that the program gives to the call
 abbrev pub LeftByCall : Limits → Call → games.Game → games.Game → Type 0
@@ -68,14 +72,14 @@ LeftByCall limits call g h =
 
 -- On the board of game g, the line of these bytes leads to a game, is answered by a line, and is taken or refused.
 pub data Next (limits : Limits) (bytes : List ℕ) (g : games.Game) : games.Game → List ℕ → Served → Type 0 where
-  opened : (n : ℕ) → Asks bytes (line.Board n) → ServedSize limits n → Next limits bytes g (games.new_game n) (codes "board " ++ decimal n) Taken
+  opened : (n : ℕ) → Asks bytes (line.Board n) → ServedSize limits n → Next limits bytes g (games.new_game n) (asked_by (line.Board n)) Taken
   out_of_range : (n : ℕ) → Asks bytes (line.Board n) → (ServedSize limits n → ⊥) → Next limits bytes g g (line_of (games.refused 3 0)) Refused
-  unreadable : (p : ℕ) → Stops Readable bytes p → Next limits bytes g g (codes "refused 1 at " ++ decimal p) Refused
+  unreadable : (p : ℕ) → Stops Readable bytes p → Next limits bytes g g (unreadable_at p) Refused
   answered : {h : games.Game} (call : Call) (a : games.Answer) → Says bytes call → (Unserved limits call → ⊥) → (Beyond limits g call → ⊥) →
       games.Right g (asked call) a h → Short g.board a → Next limits bytes g h (line_of a) (answer_is_taken a)
   beyond : (call : Call) → Says bytes call → Beyond limits g call → Next limits bytes g g (line_of games.too_many) Taken
   -- a call that the program does not serve
-  unserved : (call : Call) → Says bytes call → Unserved limits call → Next limits bytes g g (codes "refused 1 at " ++ decimal 0) Refused
+  unserved : (call : Call) → Says bytes call → Unserved limits call → Next limits bytes g g (unreadable_at 0) Refused
 
 -- such a line is written behind what was there
 abbrev pub Told : Limits → List ℕ → games.Game → games.Game → Served → List ℕ → List ℕ → Type 0
@@ -93,13 +97,13 @@ Opens limits n (Some d) = ServedSize limits n × (desk_game d ≡ games.new_game
 -- and the line that tells it
 abbrev pub opening : ℕ → Option Desk → List ℕ
 opening n None = line_of (games.refused 3 0)
-opening n (Some d) = codes "board " ++ decimal n
+opening n (Some d) = asked_by (line.Board n)
 
 -- Before the first board only `board N` is served: the board that is open then, if one is, and the line that is written.
 pub data First (limits : Limits) (bytes : List ℕ) : Option Desk → List ℕ → Type 0 where
   opened : (n : ℕ) (d : Option Desk) → Asks bytes (line.Board n) → Opens limits n d → First limits bytes d (opening n d)
-  call_before : (call : Call) → Says bytes call → First limits bytes None (codes "refused 1 at " ++ decimal 0)
-  unreadable : (p : ℕ) → Stops Readable bytes p → First limits bytes None (codes "refused 1 at " ++ decimal 0)
+  call_before : (call : Call) → Says bytes call → First limits bytes None (unreadable_at 0)
+  unreadable : (p : ℕ) → Stops Readable bytes p → First limits bytes None (unreadable_at 0)
 
 -- such a line is written behind what was there
 abbrev pub ToldFirst : Limits → List ℕ → Option Desk → List ℕ → List ℕ → Type 0
@@ -113,7 +117,7 @@ first_served (Some d) = Taken
 -- a new board in the place of game g, or a refusal
 abbrev pub Reopened : Limits → ℕ → games.Game → games.Game → Served → List ℕ → List ℕ → Type 0
 Reopened limits n g h served before after =
-    (ServedSize limits n × (h ≡ games.new_game n) × (served ≡ Taken) × (after ≡ before ++ (codes "board " ++ decimal n)))
+    (ServedSize limits n × (h ≡ games.new_game n) × (served ≡ Taken) × (after ≡ before ++ (asked_by (line.Board n))))
     ⊎ ((ServedSize limits n → ⊥) × (h ≡ g) × (served ≡ Refused) × (after ≡ before ++ line_of (games.refused 3 0)))
 
 -- whether or not there was memory to write the line: the game is as it was, or that of a new board

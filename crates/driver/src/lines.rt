@@ -1,7 +1,7 @@
 // One line in, one line out.
 ghost use Rattle.std.specs.Prelude.{◌≡◌, ◌++◌, IfOk, string_bytes, codes, decimal, OnOk};
 ghost use Rattle.session.specs.Desks.{desk_game};
-ghost use Rattle.driver.specs.Served.{trimmed, first_served, Opens, opening, Reopened, LeftByBoard, Called, LeftByCall, Told, LeftByLine, ToldFirst, LineServed, Left};
+ghost use Rattle.driver.specs.Served.{trimmed, unreadable_at, first_served, Opens, opening, Reopened, LeftByBoard, Called, LeftByCall, Told, LeftByLine, ToldFirst, LineServed, Left};
 
 use crate::failed::Failed;
 use crate::limits::Limits;
@@ -15,7 +15,7 @@ use wire::{Call, Refusal};
 // Adds that a line cannot be read, and the place of its first byte that does not fit. No Display of a refusal says this: a line can be
 // longer than the two bytes count that a refusal has for the place.
 fn write_unreadable(out: &mut String, place: usize) -> Result<(), AllocError>
-    ensures { OnOk result (string_bytes out.new ≡ string_bytes out.old ++ (codes "refused 1 at " ++ decimal place)) }
+    ensures { OnOk result (string_bytes out.new ≡ string_bytes out.old ++ unreadable_at place) }
 {
     write!(out, "refused 1 at {place}")
 }
