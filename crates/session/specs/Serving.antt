@@ -26,6 +26,10 @@ pub record Beside : Type 0 where
 abbrev pub beside : List ℕ → List ℕ → Beside
 beside scratch way = record { scratch = scratch; way = way }
 
+-- A question about game g in memory m is answered right, and the game is as it was.
+abbrev pub Told : Game → Memory → games.Call → games.Answer → Type 0
+Told g m question a = games.Right (formal g m) question a (formal g m)
+
 -- A call on game g in memory m leads to game h in memory k, and is answered by a reply: it is right by the rules for the two games, a way
 -- that it shows is a shortest, the memory holds the game again, a refusal changes nothing at all, and of the way's bytes only those of the way are written.
 pub record Answered (g : Game) (m : Memory) (s : Beside) (call : Call) (h : Game) (k : Memory) (t : Beside) (reply : Reply) : Type 0 where

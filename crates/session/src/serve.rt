@@ -7,7 +7,7 @@ ghost use Rattle.history.specs.Holds.{lent, formal, Holds};
 ghost use Rattle.wire.specs.declared.answer.Answer.TheVariants.{Refused};
 ghost use Rattle.verdict.specs.Verdicts.{bytes_of_table};
 ghost use Rattle.session.specs.Replies.{replied, way_cells, HasBytes};
-ghost use Rattle.session.specs.Serving.{Room, beside, Answered};
+ghost use Rattle.session.specs.Serving.{Room, beside, Told, Answered};
 ghost use Rattle.session.specs.Short.{Short};
 ghost use Rattle.session.specs.Told.{told_who, found_cells};
 
@@ -59,7 +59,7 @@ pub fn serve(
 pub fn who(game: Game, stones: &[u8], scratch: &mut [u8], way: &mut [u8]) -> Option<(Side, u16)>
     requires room { Room game.size.n (length scratch.old) (length way.old) }
     requires long { length stones.now ≡ game.size.n * game.size.n }
-    ensures right { (log parents borders : List ℕ) → Holds game (lent stones.now log parents borders) → games.Right (formal game (lent stones.now log parents borders)) games.who (told_who result way.new) (formal game (lent stones.now log parents borders)) }
+    ensures right { (log parents borders : List ℕ) → Holds game (lent stones.now log parents borders) → Told game (lent stones.now log parents borders) games.who (told_who result way.new) }
     ensures short { (log parents borders : List ℕ) → Holds game (lent stones.now log parents borders) → Short (formal game (lent stones.now log parents borders)).board (told_who result way.new) }
     ensures counted { found_cells result ≡ length (words (take (2 * found_cells result) way.new)) }
     ensures fits { found_cells result ≤ game.size.n * game.size.n }
@@ -78,7 +78,7 @@ pub fn who(game: Game, stones: &[u8], scratch: &mut [u8], way: &mut [u8]) -> Opt
 fn can_force(game: Game, stones: &[u8], parents: &[u8], borders: &[u8], scratch: &mut [u8]) -> Reply
     requires holds { (log : List ℕ) × Holds game (lent stones.now log parents.now borders.now) }
     requires room { bytes_of_table game.size.n ≤ length scratch.old }
-    ensures right { (log way : List ℕ) → Holds game (lent stones.now log parents.now borders.now) → games.Right (formal game (lent stones.now log parents.now borders.now)) games.can_force (replied result way) (formal game (lent stones.now log parents.now borders.now)) }
+    ensures right { (log way : List ℕ) → Holds game (lent stones.now log parents.now borders.now) → Told game (lent stones.now log parents.now borders.now) games.can_force (replied result way) }
     ensures no_way { (b : Board) (way : List ℕ) → Short b (replied result way) }
     ensures bare { way_cells result ≡ 0 }
     ensures has_bytes { HasBytes result }
