@@ -8,10 +8,10 @@ use Rattle.hexboard.specs.declared.side.Side.{Side}
 use Rattle.hexboard.specs.declared.side.Side.TheVariants.{One, Two}
 use Rattle.theorems.proofs.Decided.{one_of_both_lem}
 use Rattle.groups.proofs.Positions.{board_good, board_cells}
-use Rattle.verdict.specs.Verdicts as Verdicts
-use Rattle.verdict.specs.Verdicts.{Judges}
-use Rattle.verdict.specs.declared.verdict.Verdict.{Verdict}
-use Rattle.verdict.specs.declared.verdict.Verdict.TheVariants as verdict
+use Rattle.endgame.specs.Verdicts as Verdicts
+use Rattle.endgame.specs.Verdicts.{Judges}
+use Rattle.endgame.specs.declared.verdict.Verdict.{Verdict}
+use Rattle.endgame.specs.declared.verdict.Verdict.TheVariants as verdict
 use Rattle.history.specs.Holds.{won_by, Memory, moves_in, formal, Holds}
 use Rattle.history.specs.declared.game.Game.{Game}
 use Rattle.history.proofs.Serving.{some_side, not_won, mover}

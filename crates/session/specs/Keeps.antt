@@ -4,7 +4,7 @@ use Rattle.hexboard.specs.Board.{all_cells, Connects}
 use Rattle.hexboard.specs.Words.{words}
 use Rattle.groups.specs.Forest.{held}
 use Rattle.groups.specs.Moves.{board_of, forest_of, Legal}
-use Rattle.verdict.specs.Verdicts.{bytes_of_table}
+use Rattle.endgame.specs.Verdicts.{bytes_of_table}
 use Rattle.history.specs.Played.{winner_of}
 use Rattle.history.specs.Holds.{won_by, Memory, moves_in}
 use Rattle.history.specs.declared.game.Game.{Game}

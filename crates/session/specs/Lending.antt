@@ -6,7 +6,7 @@ use Rattle.wire.specs.declared.refusal.Refusal.{Refusal}
 use Rattle.wire.specs.declared.refusal.Refusal.TheVariants.{BadSize, SmallMemory}
 use Rattle.history.specs.Holds.{won_by, Memory, lent, formal, Holds}
 use Rattle.history.specs.declared.game.Game.{Game}
-use Rattle.verdict.specs.Verdicts.{bytes_of_table}
+use Rattle.endgame.specs.Verdicts.{bytes_of_table}
 use Rattle.session.specs.Serving.{Room}
 use Rattle.session.specs.declared.lent.Parts.{Parts}
 

@@ -47,7 +47,7 @@ impl Desk {
         let mut log = bytes(heap, cells * 2)?;
         let mut parents = bytes(heap, cells * 2)?;
         let mut borders = bytes(heap, cells)?;
-        let scratch = bytes(heap, verdict::table_bytes(size))?;
+        let scratch = bytes(heap, endgame::table_bytes(size))?;
         let way = bytes(heap, cells * 2)?;
         let game = history::start(size, &mut stones, &mut log, &mut parents, &mut borders);
         Ok(Desk {

@@ -38,7 +38,7 @@ pub fn memory_for(size: Size) -> usize
     ensures value { result ≡ asked size.n }
     ensures bound { result ≤ within size.n }
 {
-    6 * usize::from(size.cells()) + verdict::table_bytes(size)
+    6 * usize::from(size.cells()) + endgame::table_bytes(size)
 }
 
 // A new game on a board n wide and n tall, n from 1 to 19, in memory that holds anything. The parts hold it, and `Game::new` gives it

@@ -1,10 +1,9 @@
 // Small positions looked through to their end.
+use endgame::{Grouped, Verdict, can_force, table_bytes};
 use groups::Groups;
 use hexboard::{Side, Size};
-use links::Grouped;
 use std::alloc::{AllocError, Global};
 use std::test::Fail;
-use verdict::{Verdict, can_force, table_bytes};
 
 // What is answered after these moves. None on a board more than 5 wide, if the table is too short, or where a move is refused.
 fn after(size: Size, moves: &[u16], table: &mut [u8]) -> Option<Verdict> {

@@ -1,7 +1,7 @@
 use Rattle.std.proofs.Common.{ℕ, ◌+◌, ◌*◌, ◌<◌, ◌≤◌, ⊎_elim, mul-le-mul, arith}
 use Rattle.std.proofs.lemmas.Bool.Decides.{nat_tests}
 use Rattle.std.proofs.str.Laws.{order}
-use Rattle.verdict.specs.Verdicts.{bytes_of_table}
+use Rattle.endgame.specs.Verdicts.{bytes_of_table}
 use Rattle.session.specs.Lending.{within}
 use Rattle.session.proofs.lent.memory_for.Goals as goal
 

@@ -2,7 +2,7 @@ use denote.Enum.Bare.{same_true, same_false}
 use Rattle.std.proofs.Common.{rules, ◌≡◌, ◌*◌, ◌≤◌, sym, ap, ◌∙◌, subst, mul-le-mul, arith}
 use Rattle.hexboard.specs.Sides.{number}
 use Rattle.hexboard.specs.contracts.side.Side.{the_type}
-use Rattle.verdict.specs.Verdicts.{Judges}
+use Rattle.endgame.specs.Verdicts.{Judges}
 use Rattle.history.specs.Holds.{won_by, lent}
 use Rattle.session.proofs.Asking.{stones_long}
 use Rattle.session.proofs.Forcing.{right_has, right_lost, right_yes, small_cell, right_no, right_many}

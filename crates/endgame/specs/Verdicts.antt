@@ -1,0 +1,26 @@
+-- What is answered of a position with few empty cells, and when it is right. Definitions only.
+use Rattle.std.specs.Prelude.{◌≡◌, ℕ, ◌<◌, List, length, nat_lt}
+use Rattle.hexboard.specs.Board.{pick, Board, at, empties, put, other}
+use Rattle.hexboard.specs.Games.{Forces}
+use Rattle.groups.specs.Meaning.{Open}
+use Rattle.groups.specs.Moves.{board_of, Legal, Kept}
+use Rattle.endgame.specs.declared.verdict.Verdict.{Verdict}
+use Rattle.endgame.specs.declared.verdict.Verdict.TheVariants.{Yes, No, TooMany}
+
+-- how many bytes of table are enough on a board n wide: two bits for each position with at most 16 empty cells, or 9 on the boards
+-- that have no more
+abbrev pub bytes_of_table : ℕ → ℕ
+bytes_of_table n = pick (nat_lt n 4) 1512 2541445
+
+-- The answer is right on board b, with side s to move: s can force that it connects, and still can after a move to an empty cell;
+-- or it cannot; or more than 16 cells are empty.
+abbrev pub Right : Board → ℕ → Verdict → Type 0
+Right b s (Yes i) = (i < length b.cells) × (at b i ≡ 0) × Forces s (put b s i) (other s)
+Right b s No = Forces s b s → ⊥
+Right b s TooMany = 16 < empties b.cells
+
+-- It is right for every legal list of moves after which nobody has connected, that leads to these stones, and whose groups the
+-- memory keeps.
+abbrev pub Judges : ℕ → ℕ → List ℕ → List ℕ → List ℕ → Verdict → Type 0
+Judges n s stones ps bs v =
+    (ms : List ℕ) → Legal n ms → stones ≡ (board_of n ms).cells → Kept n ms ps bs → Open (board_of n ms) → Right (board_of n ms) s v
