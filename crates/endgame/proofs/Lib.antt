@@ -14,3 +14,4 @@ pub mod Ties
 pub mod Preparing
 pub mod Starting
 pub mod Judging
+pub mod Once

@@ -103,8 +103,8 @@ kept_of (Won carrier step) = entry_of Mover
 kept_of (Lost carrier) = entry_of Other
 
 -- a position is decided by looking at it, or the table has what was found
-abbrev pub Kept : ℕ → Links → Links → Position → List ℕ → Found → Type 0
-Kept e mine theirs p u f = Seen mine theirs p ⊎ (entry u (place e p.mine p.theirs) ≡ kept_of f)
+abbrev pub KeepsFinding : ℕ → Links → Links → Position → List ℕ → Found → Type 0
+KeepsFinding e mine theirs p u f = Seen mine theirs p ⊎ (entry u (place e p.mine p.theirs) ≡ kept_of f)
 
 -- the position after a move, seen by the other side
 abbrev pub moved : Position → ℕ → Position

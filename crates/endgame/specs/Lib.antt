@@ -10,4 +10,6 @@ pub mod Choices
 pub mod Linked
 pub mod Prepared
 pub mod Searched
+pub mod Efforts
+pub mod Searches
 pub mod Verdicts

@@ -11,6 +11,6 @@ mod winner;
 
 pub use grouped::Grouped;
 pub use links::Links;
-pub use search::{Found, Position, solve};
+pub use search::{Effort, Found, Position, Search};
 pub use verdict::{Verdict, can_force, table_bytes};
 pub use winner::Winner;

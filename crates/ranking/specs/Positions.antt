@@ -1,5 +1,5 @@
 -- The place of a position among all that can arise in an end of a game. Definitions only.
-use Rattle.std.specs.Prelude.{◌≡◌, ℕ, zero, suc, ◌+◌, ◌-◌, ◌*◌, ◌/◌, ◌%◌, ◌^◌, ◌<◌, cond, ◌⊎◌, ◌==◌, count_ones}
+use Rattle.std.specs.Prelude.{◌≡◌, ℕ, zero, suc, ◌+◌, ◌-◌, ◌*◌, ◌/◌, ◌%◌, ◌^◌, ◌<◌, cond, ◌⊎◌, ◌==◌, nat_le, count_ones}
 use Rattle.ranking.specs.Sets.{Apart}
 
 -- A position of an end with e cells is two sets, the stones of the side to move and those of the other, laid since the end began.
@@ -43,6 +43,16 @@ total e = start e (e + 1)
 -- the place of a position: those with fewer stones come first
 unfoldable pub place : ℕ → ℕ → ℕ → ℕ
 place e mine theirs = start e (count_ones mine + count_ones theirs) + rank e mine theirs
+
+-- how many stones there are in the positions at place i, if there are at most m: as many as the last number of stones with which
+-- positions begin there or before
+unfoldable pub stones_up_to : ℕ → ℕ → ℕ → ℕ
+stones_up_to e i zero = 0
+stones_up_to e i (suc m) = cond (nat_le (start e (suc m)) i) (suc m) (stones_up_to e i m)
+
+-- how many cells are free in the position at place i
+abbrev pub free_at : ℕ → ℕ → ℕ
+free_at e i = e - stones_up_to e i e
 
 -- each position has a place below the number of positions, and shares it with no other
 abbrev pub EachBelow : Type 0

@@ -97,7 +97,8 @@ fn can_force(game: Game, stones: &[u8], parents: &[u8], borders: &[u8], scratch:
         parents,
         borders,
     };
-    match endgame::can_force(&position, turn, scratch) {
+    let (verdict, _) = endgame::can_force(&position, turn, scratch);
+    match verdict {
         Verdict::Yes(cell) => Reply::Yes(Some(cell)),
         Verdict::No => Reply::No,
         Verdict::TooMany => Reply::TooMany,

@@ -30,7 +30,8 @@ fn after(size: Size, moves: &[u16], table: &mut [u8]) -> Option<Verdict> {
         parents,
         borders,
     };
-    Some(can_force(&position, side, table))
+    let (verdict, _) = can_force(&position, side, table);
+    Some(verdict)
 }
 
 // The same on a board up to 3 wide, with a table that holds anything.
