@@ -16,7 +16,7 @@ pub loop-near-preserved-then-eq : goal.loop-near-preserved-then-eq
 loop-near-preserved-then-eq c =
     let is : Some c.args.side ≡ c.stone.result = grind arith in
     let there = upto_next (adopt_end (laid c.args.size.n c.args.cells.now) _ _ _ _ _) c.in-Some.ensures.steps c.loop-near.invariant.0 in (
-      (_, there.3, adopt_stone (laid c.args.size.n c.args.cells.now) _ _ _ _ _ _ _ there.1 there.2 _ _ (stone_read c.stone.ensures.value is) c.root-top.ensures c.join.ensures.value),
+      (_, there.3, adopt_stone (laid c.args.size.n c.args.cells.now) _ _ _ _ _ _ _ there.1 there.2 _ _ (stone_read c.stone.ensures.value is) c.root-top.ensures.value c.join.ensures.value),
       c.join.ensures.behind ∙ c.loop-near.invariant.1,
     )
 
