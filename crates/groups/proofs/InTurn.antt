@@ -4,9 +4,8 @@ use Rattle.std.proofs.lemmas.List.{length_push}
 use Rattle.std.proofs.lemmas.Bool.Decides.{nat_tests}
 use Rattle.hexboard.specs.Board.{pick, put, other}
 use Rattle.hexboard.proofs.Boards.{other_side}
-use Rattle.groups.specs.Forest.{place}
 use Rattle.groups.specs.Stones.{Placement, stone, is_free, AreLegal}
-use Rattle.groups.specs.Moves.{in_turn, stones_of, turn_of, board_of, forest_of, Legal}
+use Rattle.groups.specs.Moves.{in_turn, stones_of, turn_of, board_of, Legal}
 use Rattle.groups.proofs.Positions.{lie_parts, lie_from}
 use Rattle.groups.specs.Stones as stones
 use Rattle.groups.proofs.Positions as positions
@@ -28,7 +27,6 @@ turn_side ms = grind (arith, nat_tests)
 
 -- The last of the moves lays a stone of the side that is to move after the others.
 push_from : (s : ℕ) (ms : List ℕ) (x : ℕ) → (s ≡ 1) ⊎ (s ≡ 2) → in_turn s (ms ++ x ∷ []) ≡ in_turn s ms ++ stone (turn_from s ms) x ∷ []
-unfolding in_turn
 push_from s [] x side = refl
 push_from s (m ∷ ms) x side =
     ap (λ (ps : List Placement). stone s m ∷ ps)
@@ -36,6 +34,10 @@ push_from s (m ∷ ms) x side =
 
 pub stones_push : (ms : List ℕ) (x : ℕ) → stones_of (ms ++ x ∷ []) ≡ stones_of ms ++ stone (turn_of ms) x ∷ []
 stones_push ms x = push_from 1 ms x (inl refl)
+
+-- So a stone of that side is the last of the moves.
+pub last_stone : (ms : List ℕ) (s x : ℕ) → s ≡ turn_of ms → stones_of ms ++ stone s x ∷ [] ≡ stones_of (ms ++ x ∷ [])
+last_stone ms s x e = ap (λ t. stones_of ms ++ stone t x ∷ []) e ∙ sym (stones_push ms x)
 
 -- One move more: the board has its stone, and its groups have joined.
 pub board_push : (n : ℕ) (ms : List ℕ) (x : ℕ) → board_of n (ms ++ x ∷ []) ≡ put (board_of n ms) (turn_of ms) x

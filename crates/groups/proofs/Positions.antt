@@ -73,20 +73,20 @@ module _ (l : Layout) (p : Placement) (ok : Sound l) (can : can_lie l.board p �
   all y l n = neighbour_all b.wide x y (rw ok.square at free.0) (rw ok.square at l) n
 
   -- The stone that has come is the root of its group.
-  pub lain_top : parent (with_stone l p).forest.parents x ≡ x
-  lain_top = placed_top b s x some free.0 free.1 ok.holds (next_symmetric b.wide) (neighbour_of b.wide x) (neighbour_next b.wide x) 6 all
+  pub with_stone_root : parent (with_stone l p).forest.parents x ≡ x
+  with_stone_root = placed_top b s x some free.0 free.1 ok.holds (next_symmetric b.wide) (neighbour_of b.wide x) (neighbour_next b.wide x) 6 all
 
   -- The layout with it is sound.
-  pub lain_sound : Sound (with_stone l p)
-  lain_sound =
+  pub with_stone_sound : Sound (with_stone l p)
+  with_stone_sound =
       record {
         square = length-set b.cells x s ∙ ok.square;
         holds = placed_groups b s x some free.0 free.1 ok.holds (next_symmetric b.wide) (neighbour_of b.wide x) (neighbour_next b.wide x) 6 all;
       }
 
   -- Taking the stone out again leaves the forest as it was.
-  pub lain_back : lift (length l.board.cells) x (with_stone l p).forest ≡ l.forest
-  lain_back =
+  pub with_stone_back : lift (length l.board.cells) x (with_stone l p).forest ≡ l.forest
+  with_stone_back =
       lifted b l.forest ok.holds s x 6 (touch b.wide s x) (neighbour_of b.wide x) free.1
       (growing_ends b s x some free.0 free.1 ok.holds (next_symmetric b.wide) (neighbour_of b.wide x) (neighbour_next b.wide x))
 
@@ -133,7 +133,7 @@ unfolding can_all_lie
 all_sound l [] ok h = ok
 all_sound l (p ∷ ps) ok h =
     let (can, later) = and_parts (can_lie l.board p) (can_all_lie (with_stone l p) ps) h in
-    all_sound (with_stone l p) ps (lain_sound l p ok can) later
+    all_sound (with_stone l p) ps (with_stone_sound l p ok can) later
 
 -- One stone more is laid last.
 pub layout_push : (n : ℕ) (ps : List Placement) (p : Placement) → layout_of n (ps ++ p ∷ []) ≡ with_stone (layout_of n ps) p

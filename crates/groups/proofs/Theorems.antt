@@ -5,13 +5,13 @@ use Rattle.hexboard.specs.Board.{Board, at, other, Connects}
 use Rattle.hexboard.specs.Geometry.{laid}
 use Rattle.hexboard.proofs.Adjacent.{next_symmetric}
 use Rattle.hexboard.proofs.Boards.{other_side}
-use Rattle.groups.specs.Forest.{Forest, root, place, lift}
+use Rattle.groups.specs.Forest.{Forest, place, lift}
 use Rattle.groups.specs.Stones.{Placement, Layout, stone, with_stone, layout_of, board_of, forest_of, can_lie, AreLegal, IsBoardAround}
 use Rattle.groups.specs.Meaning.{Both, Together, Joined, Open, KeptOnce, OneMore, OneFewer, TellsWinner}
 use Rattle.hexboard.proofs.TwoBytes.{same_bytes}
 use Rattle.groups.proofs.Spanning.{same_root, spans, byte_decides, other_as_before}
 use Rattle.groups.proofs.Ways.{connects}
-use Rattle.groups.proofs.Positions.{Sound, no_empty, of_both, free_parts, lie_parts, lain_top, lain_sound, lain_back}
+use Rattle.groups.proofs.Positions.{Sound, no_empty, of_both, free_parts, lie_parts, with_stone_root, with_stone_sound, with_stone_back}
 use Rattle.groups.proofs.Positions.{legal_none, legal_sound, legal_last, nothing_first, layout_push, board_cells, board_laid, board_push, forest_push, place_alike}
 
 -- Of three statements, if the first holds exactly when the second does, and the second when the third does, so do the first and third.
@@ -32,7 +32,7 @@ back_again n ps p h =
     let (before, can) = legal_last n ps p h in
     ap (λ k. lift k p.cell (forest_of n (ps ++ p ∷ []))) (sym (board_cells n ps before))
     ∙ ap (λ l. lift (length (board_of n ps).cells) p.cell l.forest) (layout_push n ps p)
-    ∙ lain_back (layout_of n ps) p (legal_sound n ps before) can
+    ∙ with_stone_back (layout_of n ps) p (legal_sound n ps before) can
 
 -- Where nobody has connected, neither side has.
 pub neither : (b : Board) (s : ℕ) → Open b → (s ≡ 1) ⊎ (s ≡ 2) → Connects b s → ⊥
@@ -59,7 +59,7 @@ module _ (l : Layout) (p : Placement) (ok : Sound l) (can : can_lie l.board p �
   byte_tells_it =
       iff_trans (connects (with_stone l p).board s)
       (byte_decides (next_symmetric l.board.wide) l.board s p.cell (no_empty s side) free.0 free.1
-      (lain_sound l p ok can).holds (lain_top l p ok can) (λ q. neither l.board s not_yet side ((connects l.board s).1 q)))
+      (with_stone_sound l p ok can).holds (with_stone_root l p ok can) (λ q. neither l.board s not_yet side ((connects l.board s).1 q)))
 
   other_has_not : Connects (with_stone l p).board (other s) → ⊥
   other_has_not c =

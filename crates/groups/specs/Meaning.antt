@@ -34,9 +34,9 @@ abbrev pub Open : Board → Type 0
 Open b = (Connects b 1 → ⊥) × (Connects b 2 → ⊥)
 
 -- as many bytes as the parents of a board n wide take
-pub record Bytes (n : ℕ) (ps : List ℕ) : Type 0 where
-  pub many : length ps ≡ n * n * 2
-  pub small : (i : ℕ) → slice_index ps i < 256
+pub record Bytes (n : ℕ) (bytes : List ℕ) : Type 0 where
+  pub many : length bytes ≡ n * n * 2
+  pub small : (i : ℕ) → slice_index bytes i < 256
 
 -- The stones tell every byte: memory that keeps their groups is the same, however it came about.
 abbrev pub KeptOnce : Type 0

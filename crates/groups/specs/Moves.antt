@@ -1,12 +1,12 @@
 -- Boards and groups as functions of a list of moves: stones of the two sides in turn, side 1 first.
-use Rattle.std.specs.Prelude.{◌≡◌, ℕ, ◌%◌, List, [], ◌∷◌, length, ◌==◌}
+use Rattle.std.specs.Prelude.{ℕ, ◌%◌, List, [], ◌∷◌, length, ◌==◌}
 use Rattle.hexboard.specs.Board.{pick, Board, other}
 use Rattle.groups.specs.Forest.{Forest}
 use Rattle.groups.specs.Stones as stones
 use Rattle.groups.specs.Stones.{Placement, stone, AreLegal}
 
 -- stones on these cells, the first of side s and the others of the sides in turn
-unfoldable pub in_turn : ℕ → List ℕ → List Placement
+abbrev pub in_turn : ℕ → List ℕ → List Placement
 in_turn s [] = []
 in_turn s (x ∷ xs) = stone s x ∷ in_turn (other s) xs
 

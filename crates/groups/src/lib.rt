@@ -42,12 +42,10 @@ impl Groups<'_> {
     /// A stone of a side comes to an empty cell, and takes in the groups of its side next to it. `cells` may hold the stone already or
     /// not.
     pub fn place(self, size: Size, cells: &[u8], side: Side, cell: u16)
-        ensures value {
-            after self.exit ≡ place (laid size.n cells.now) (number side) cell (before self.entry)
-        }
-        ensures grows {
-            OneMore size.n cells.now (number side) cell (before self.entry) (after self.exit)
-        }
+        ensures value { after self.exit
+            ≡ place (laid size.n cells.now) (number side) cell (before self.entry) }
+        ensures grows { OneMore size.n cells.now (number side) cell
+            (before self.entry) (after self.exit) }
         ensures behind { RestKept self.entry self.exit }
     {
         let Groups { parents, borders } = self;
