@@ -6,7 +6,7 @@ use Rattle.hexboard.specs.Board.{Board, at, next_to, begins, ends, goes_on, is_w
 use Rattle.hexboard.specs.Rows.{Stone}
 use Rattle.hexboard.proofs.Boards.{empties_few, empties_set}
 use Rattle.theorems.proofs.Ways.{goes_on_parts, goes_on_from, way_parts, way_from}
-use Rattle.worked.specs.Search.{some_below, finds, finds_way}
+use Rattle.theorems.specs.Search.{some_below, finds, finds_way}
 
 -- A test that holds of a number below n holds of some,
 pub some_from : (test : ℕ → Bool) (n j : ℕ) → j < n → test j ≡ true → some_below test n ≡ true
