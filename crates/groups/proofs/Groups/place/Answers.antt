@@ -2,7 +2,7 @@ use Rattle.std.proofs.Common.{◌≡◌, Some, sym, refl, ◌∙◌, arith}
 use Rattle.hexboard.specs.Geometry.{laid}
 use Rattle.hexboard.specs.Sides.{number}
 use Rattle.hexboard.proofs.Given.{upto_start, upto_next, upto_end, over_none}
-use Rattle.hexboard.proofs.Pairs.{stone_read, stone_other}
+use Rattle.hexboard.proofs.Reading.{stone_read, stone_other}
 use Rattle.groups.specs.Forest.{held}
 use Rattle.groups.specs.Lent.{before}
 use Rattle.groups.proofs.Placing.{adopt_end, adopt_stone, adopt_other}
