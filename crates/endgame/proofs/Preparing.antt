@@ -7,7 +7,7 @@ use Rattle.hexboard.specs.Board.{pick, Board, begins, ends}
 use Rattle.hexboard.specs.Geometry.{laid, touch}
 use Rattle.hexboard.specs.Promise.{Good}
 use Rattle.groups.specs.Forest.{Forest, held}
-use Rattle.groups.specs.Moves.{board_of, forest_of}
+use Rattle.groups.specs.Stones.{board_of, forest_of}
 use Rattle.groups.proofs.Marks.{Has}
 use Rattle.groups.proofs.Positions.{Holds, legal_sound, board_cells, board_good, board_laid}
 use Rattle.groups.proofs.Ways.{first_bit, last_bit}
@@ -96,9 +96,9 @@ linked b f g small good w side es num l h = record {
       all = λ k i is. set.all k i (bound_all b f g small good w side es num (get_or es k 0) (num.inside k i) t border tells is);
     }
 
--- So it is for the moves whose board and groups the memory keeps.
+-- So it is for the stones whose board and groups the memory keeps.
 pub prepared : (n w : ℕ) → 0 < n → n ≤ 19 → (w ≡ 1) ⊎ (w ≡ 2) → (stones ps bs es : List ℕ) (l : Links) →
     Preparing (near_of (laid n stones) w (held ps bs) es) (borders_of (laid n stones) w (held ps bs) es) (length es) l.near l.first l.last → Prepared n w stones ps bs es l
-prepared n w some few side stones ps bs es l h ms legal is kept num =
-    linked (board_of n ms) (forest_of n ms) (legal_sound n ms legal).holds (omega (arith, board_cells n ms legal, mul-le-mul few few)) (board_good n ms some) w side es num l
-    (subst₂ (λ b f. Preparing (near_of b w f es) (borders_of b w f es) (length es) l.near l.first l.last) (board_laid n ms stones is) kept h)
+prepared n w some few side stones ps bs es l h on lead num =
+    linked (board_of n on) (forest_of n on) (legal_sound n on lead.legal).holds (omega (arith, board_cells n on lead.legal, mul-le-mul few few)) (board_good n on lead.legal some) w side es num l
+    (subst₂ (λ b f. Preparing (near_of b w f es) (borders_of b w f es) (length es) l.near l.first l.last) (board_laid n on stones lead.cells) lead.groups h)

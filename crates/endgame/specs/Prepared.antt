@@ -1,12 +1,18 @@
 -- What is prepared for a side from the memory that keeps its groups. Definitions only.
 use Rattle.std.specs.Prelude.{◌≡◌, ℕ, List}
-use Rattle.groups.specs.Moves.{board_of, Legal, Kept}
+use Rattle.groups.specs.Stones.{Placement, board_of, AreLegal, KeepsGroups}
 use Rattle.endgame.specs.declared.links.Links.{Links}
 use Rattle.endgame.specs.Ends.{Numbered}
 use Rattle.endgame.specs.Linked.{Linked}
 
--- For every legal list of moves that leads to these stones and whose groups the memory keeps, the links of side w tell what its
--- stones make of the empty cells es.
+-- These stones, of either side and in any order, lead to the cells in memory, and to the groups that it keeps.
+pub record LeadTo (n : ℕ) (laid : List Placement) (stones parents borders : List ℕ) : Type 0 where
+  pub legal : AreLegal n laid
+  pub cells : stones ≡ (board_of n laid).cells
+  pub groups : KeepsGroups n laid parents borders
+
+-- Whatever stones lead to what is in memory, the links of side w tell what its stones make of the empty cells es.
 abbrev pub Prepared : ℕ → ℕ → List ℕ → List ℕ → List ℕ → List ℕ → Links → Type 0
-Prepared n w stones ps bs es l =
-    (ms : List ℕ) → Legal n ms → stones ≡ (board_of n ms).cells → Kept n ms ps bs → Numbered (board_of n ms) es → Linked (board_of n ms) es w l
+Prepared n w stones parents borders es l =
+    (laid : List Placement) → LeadTo n laid stones parents borders →
+    Numbered (board_of n laid) es → Linked (board_of n laid) es w l

@@ -3,7 +3,8 @@ use Rattle.std.specs.Prelude.{◌≡◌, ℕ, ◌<◌, List, length, nat_lt}
 use Rattle.hexboard.specs.Board.{pick, Board, at, empties, put, other}
 use Rattle.hexboard.specs.Games.{Forces}
 use Rattle.groups.specs.Meaning.{Open}
-use Rattle.groups.specs.Moves.{board_of, Legal, Kept}
+use Rattle.groups.specs.Stones.{Placement, board_of}
+use Rattle.endgame.specs.Prepared.{LeadTo}
 use Rattle.endgame.specs.declared.verdict.Verdict.{Verdict}
 use Rattle.endgame.specs.declared.verdict.Verdict.TheVariants.{Yes, No, TooMany}
 
@@ -19,8 +20,8 @@ Right b s (Yes i) = (i < length b.cells) × (at b i ≡ 0) × Forces s (put b s 
 Right b s No = Forces s b s → ⊥
 Right b s TooMany = 16 < empties b.cells
 
--- It is right for every legal list of moves after which nobody has connected, that leads to these stones, and whose groups the
--- memory keeps.
+-- It is right whatever stones lead to what is in memory, if nobody has connected.
 abbrev pub Judges : ℕ → ℕ → List ℕ → List ℕ → List ℕ → Verdict → Type 0
-Judges n s stones ps bs v =
-    (ms : List ℕ) → Legal n ms → stones ≡ (board_of n ms).cells → Kept n ms ps bs → Open (board_of n ms) → Right (board_of n ms) s v
+Judges n s stones parents borders v =
+    (laid : List Placement) → LeadTo n laid stones parents borders → Open (board_of n laid) →
+    Right (board_of n laid) s v

@@ -12,3 +12,8 @@ pub mod Mirror
 pub mod NotBoth
 pub mod Decided
 pub mod FirstWins
+pub mod Finding
+pub mod Settled
+pub mod Running
+pub mod Shortest
+pub mod WorkedGames

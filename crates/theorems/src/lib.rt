@@ -8,6 +8,12 @@ ghost use Rattle.hexboard.specs.Games.{Forces};
 ghost use Rattle.hexboard.specs.Promise.{Good, across, Turned};
 ghost use Rattle.hexboard.specs.Promise.{NeverBoth, NeverNeither, FirstWins, OneOfBoth, NeverALoss, TurnedOver};
 
+mod worked;
+
+pub use worked::{
+    nobody_has_connected, rules_settle, search_decides, side_one_connects_after_two_taken_back,
+};
+
 // On no board do both sides connect: who has connected need not look whether the other has.
 pub fn never_both()
     ensures theorem { NeverBoth }

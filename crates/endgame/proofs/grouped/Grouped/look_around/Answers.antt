@@ -1,6 +1,6 @@
 use Rattle.std.proofs.Common.{◌≡◌, Some, sym, ◌∙◌, arith}
 use Rattle.hexboard.proofs.Given.{upto_start, upto_next, upto_end, over_none}
-use Rattle.hexboard.proofs.Pairs.{stone_read, stone_other}
+use Rattle.hexboard.proofs.Reading.{stone_read, stone_other}
 use Rattle.endgame.proofs.Gathered.{looked_end, looked_theirs, looked_ours}
 use Rattle.endgame.proofs.grouped.Grouped.look_around.Goals as goal
 
@@ -14,7 +14,7 @@ loop-near-preserved-then-ne c =
     let isnt : Some c.opponent.result ≡ c.stone.result → ⊥ = λ e. grind arith in
     let there = upto_next looked_end c.in-Some.ensures.steps c.loop-near.invariant in
     let ours = looked_ours there.1 there.2 (λ e. stone_other c.stone.ensures.value isnt (e ∙ sym c.opponent.ensures)) in
-    (_, there.3, rw (c.read.ensures, c.touched.ensures, c.root-root.ensures) ours)
+    (_, there.3, rw (c.read.ensures, c.touched.ensures, c.root-root.ensures.value) ours)
 
 pub loop-near-preserved : goal.loop-near-preserved
 loop-near-preserved c =

@@ -1,0 +1,3 @@
+pub mod Search
+pub mod Settled
+pub mod Worked
