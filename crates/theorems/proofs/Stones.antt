@@ -13,6 +13,11 @@ Side s = (s ≡ 1) ⊎ (s ≡ 2)
 abbrev pub Against : ℕ → ℕ → Type 0
 Against s r = ((s ≡ 1) × (r ≡ 2)) ⊎ ((s ≡ 2) × (r ≡ 1))
 
+-- Who plays against somebody is a side.
+pub side_of : {s r : ℕ} → Against s r → Side s
+side_of (inl a) = inl a.0
+side_of (inr a) = inr a.0
+
 -- Against a side plays the other,
 pub is_other : {s r : ℕ} → Against s r → r ≡ other s
 is_other a = omega arith

@@ -2,11 +2,17 @@
 // who plays. The functions have nothing to do; that they are proved is what they are for.
 #![tactic(auto)]
 
+mod laying;
+
 ghost use Rattle.std.specs.Prelude.{◌≡◌, ℕ, ◌<◌, true, ◌⊎◌, List, map};
 ghost use Rattle.hexboard.specs.Board.{Board, is_way, Connects, empty, empties, other};
 ghost use Rattle.hexboard.specs.Games.{Forces};
 ghost use Rattle.hexboard.specs.Promise.{Good, across, Turned};
 ghost use Rattle.hexboard.specs.Promise.{NeverBoth, NeverNeither, FirstWins, OneOfBoth, NeverALoss, TurnedOver};
+
+pub use laying::{
+    better_is_no_loss, mover_can_force, one_can_force, renamed_alike, squares_are_lawful,
+};
 
 // On no board do both sides connect: who has connected need not look whether the other has.
 pub fn never_both()
