@@ -32,7 +32,7 @@ full s f e = full_won (to_game f) e
 pub better : (s : ℕ) → Side s → {b : Board} {t : ℕ} → Forces s b t → (c : Board) → Better s b c → Forces s c t
 better s side {b} {t} f c k =
     subst (λ n. Forces s (laid n c.cells) t) (sym k.wide)
-    (of_game (force_better (squares_keep b.wide) side (to_game f) c.cells (record { long = k.long; cells = k.up })))
+    (of_game (force_better (squares_keep b.wide) side (to_game f) c.cells (record { long = k.long; cells = λ i _. k.up i })))
 
 -- A stone more is never a loss.
 pub never_a_loss_lem : NeverALoss

@@ -12,11 +12,6 @@ use Rattle.theorems.proofs.Ways.{Carries, carried_way, carried}
 use Rattle.theorems.proofs.Renaming.{opposite_side, force_renamed}
 use Rattle.theorems.proofs.Squares.{to_game, of_game, position}
 
--- What a cell across is, written out.
-across_is : (n i : ℕ) → across n i ≡ (i % n) * n + i / n
-unfolding across
-across_is n i = refl
-
 -- a cell of a board n wide and n tall
 module _ (n i : ℕ) (pos : 0 < n) (h : i < n * n) where
   -- The cell across lies in the row that was the column, and in the column that was the row.
@@ -38,7 +33,7 @@ module _ (n i : ℕ) (pos : 0 < n) (h : i < n * n) where
   across_twice =
       let r = across_row in
       let c = across_column in
-      let a = across_is n (across n i) in
+      let a : across n (across n i) ≡ (across n i % n) * n + across n i / n = unfold across in refl in
       let d = div-add-mod' i n in
       cc
 

@@ -1,4 +1,5 @@
--- A game with its cells renamed and the sides exchanged: what one side had, the other has, and so it is good to be to move.
+-- A game with its cells renamed and the sides exchanged: each side has what the other had. Where that is the same game, whoever is to
+-- move can force that it wins.
 use Rattle.std.proofs.Common.{◌≡◌, ℕ, ◌<◌, List, length, get_or, set, replicate, sym, refl, ap, ◌∙◌, subst, ⊎_elim, arith, lit<}
 use Rattle.std.proofs.lemmas.List.{length-set, get_or-set_same, get_or-set_other, length-replicate, get_or-replicate}
 use Rattle.std.proofs.lemmas.List.Elements.{All-get_or, All-replicate}
@@ -38,12 +39,9 @@ module _ {g h : Rules} {f back : ℕ → ℕ} (e : Exchanges g h f back) where
     empty_before : (i : ℕ) → i < length c → get_or c i 0 ≡ 0 → (j : ℕ) × (j < length b) × (get_or b j 0 ≡ 0) × (f j ≡ i)
     empty_before i l z =
         let on : i < g.count = omega (arith, p.long, m.long) in
-        let hj : back i < length b = omega (arith, p.long, e.back_inside i on) in (
-          back i,
-          hj,
-          opposite_empty (get_or b (back i) 0) (All-get_or (λ x. x < 3) b (back i) 0 hj p.stones) (sym z ∙ (ap (λ k. get_or c k 0) (sym (e.again i on)) ∙ m.stones (back i) hj)),
-          e.again i on,
-        )
+        let hj : back i < length b = omega (arith, p.long, e.back_inside i on) in
+        let was : 0 ≡ opposite_stone (get_or b (back i) 0) = sym z ∙ (ap (λ k. get_or c k 0) (sym (e.again i on)) ∙ m.stones (back i) hj) in
+        (back i, hj, opposite_empty (get_or b (back i) 0) (All-get_or (λ x. x < 3) b (back i) 0 hj p.stones) was, e.again i on)
 
     -- A stone put on a cell under both its names, of one side and of the other, leaves the position renamed.
     renamed_set : (i s : ℕ) → Side s → i < length b → Renamed f (set b i s) (set c (f i) (other s))

@@ -4,10 +4,11 @@ use Rattle.std.proofs.lemmas.List.{get_or-set_same, get_or-set_other}
 use Rattle.std.proofs.lemmas.Bool.{cases_eq}
 use Rattle.std.proofs.lemmas.Bool.Decides.{nat_tests}
 use Rattle.hexboard.specs.Board.{empties, other}
+use Rattle.hexboard.specs.Laying.{IsSide}
 
 -- the two that play
 abbrev pub Side : ℕ → Type 0
-Side s = (s ≡ 1) ⊎ (s ≡ 2)
+Side s = IsSide s
 
 -- r plays against s
 abbrev pub Against : ℕ → ℕ → Type 0

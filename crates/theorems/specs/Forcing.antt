@@ -12,7 +12,7 @@ IsAsGood s x y = (y ≡ x) ⊎ ((y ≡ s) ⊎ (x ≡ other s))
 -- cells c are as many as cells b, and one by one at least as good for side s
 pub record IsNoWorse (s : ℕ) (b c : List ℕ) : Type 0 where
   pub long : length c ≡ length b
-  pub cells : (i : ℕ) → IsAsGood s (slice_index b i) (slice_index c i)
+  pub cells : (i : ℕ) → i < length b → IsAsGood s (slice_index b i) (slice_index c i)
 
 -- What a side can force, it can force where each cell is at least as good for it, whoever moves.
 abbrev pub BetterIsNoLoss : Rules → Type 0
