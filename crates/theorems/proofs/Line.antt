@@ -64,8 +64,13 @@ module _ (In : Cell → Type 0) (colour : Cell → Bool) where
   led_on : (s : Bool) (p q : Cell) → Stands s p → Near p q → ringed q ≡ s → In q → 0 < q.row + q.column → Stands s q
   led_on s p q h n e i m =
       let o = off_corner s q e m in
-      record { mine = e; inside = i; off = o; led = λ a. let (c, t, l) = off_ring s q e a o in
-      go (record { mine = c; inside = i; top = t; left = l }) (zero_or_more (along s p)) a }
+      record {
+        mine = e;
+        inside = i;
+        off = o;
+        led = λ a. let (c, t, l) = off_ring s q e a o in
+            go (record { mine = c; inside = i; top = t; left = l }) (zero_or_more (along s p)) a;
+      }
     where
       go : On s q → (along s p ≡ 0) ⊎ (0 < along s p) → 0 < along s q → Led s q
       go on (inl z) a = first on (one_along s p q n z a)
@@ -187,7 +192,7 @@ module _ (In : Cell → Type 0) (colour : Cell → Bool) where
     unfolding code
     code_same l m h k e =
         let r = pair_same cells (cell_code l.one) (cell_code l.two) (cell_code m.one) (cell_code m.two)
-            (cell_below l.two h.twos.inside) (cell_below m.two k.twos.inside) e in
+        (cell_below l.two h.twos.inside) (cell_below m.two k.twos.inside) e in
         let p = cell_same l.one m.one h.ones.inside k.ones.inside r.0 in
         let q = cell_same l.two m.two h.twos.inside k.twos.inside r.1 in
         λ i. record { one = p i; two = q i }

@@ -1,4 +1,4 @@
--- How a lawful game comes out: in every position just one of the two sides can force that it wins.
+-- How a lawful game comes out: in every position exactly one of the two sides can force that it wins.
 use Rattle.std.proofs.Common.{◌≡◌, ℕ, zero, suc, ◌<◌, ◌⊎◌, List, length, get_or, set, sym, refl, ◌∙◌, subst, inl, inr, ⊎_elim, arith}
 use mathlib.Core.Logic.{⊎_map, ⊎_swap}
 use Rattle.std.proofs.lemmas.List.{length-set}
@@ -110,7 +110,7 @@ module _ {g : Rules} (law : IsLawful g) where
       go (inr turn) _ = ⊎_elim (λ o. o.1 k) (λ o. o.1 f) (decided b s r t a p turn)
       go (inl _) (inr turn) = ⊎_elim (λ o. o.1 k) (λ o. o.1 f) (decided b s r t a p turn)
 
-  -- In every position just one of both can force it.
+  -- In every position exactly one of the two can force it.
   pub one_can_force_lem : OneCanForce g
   one_can_force_lem s t b p side turn =
       let a = against_other s side in
