@@ -7,7 +7,7 @@ use Rattle.hexboard.specs.Board.{Board, at, next_to, begins, ends, goes_on, Conn
 use Rattle.hexboard.specs.Promise.{Good, NeverNeither}
 use Rattle.hexboard.specs.Rows.{Stone}
 use Rattle.hexboard.proofs.Boards.{good_at}
-use Rattle.theorems.proofs.Stones.{Side, Against, against_other, either_way, empty_counts}
+use Rattle.theorems.proofs.Stones.{Side, against_other, either_way, empty_counts}
 use Rattle.theorems.proofs.Ways.{goes_on_from, way_from}
 use Rattle.theorems.proofs.Cells.{Cell, Near, along}
 use Rattle.theorems.proofs.Line.{On, Led, first, more, OnBoard, Across, one_connects}

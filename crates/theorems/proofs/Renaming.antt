@@ -31,11 +31,7 @@ module _ {g h : Rules} {f back : ℕ → ℕ} (e : Exchanges g h f back) where
     renamed_in : (i : ℕ) → i < length b → f i < length c
     renamed_in i l = omega (arith, p.long, m.long, e.inside i (omega (arith, p.long)))
 
-    -- An empty cell stays empty,
-    renamed_empty : (i : ℕ) → get_or b i 0 ≡ 0 → i < length b → get_or c (f i) 0 ≡ 0
-    renamed_empty i z l = m.stones i l ∙ ap opposite_stone z
-
-    -- and each empty cell was one.
+    -- Each empty cell was one.
     empty_before : (i : ℕ) → i < length c → get_or c i 0 ≡ 0 → (j : ℕ) × (j < length b) × (get_or b j 0 ≡ 0) × (f j ≡ i)
     empty_before i l z =
         let on : i < g.count = omega (arith, p.long, m.long) in
@@ -56,26 +52,20 @@ module _ {g h : Rules} {f back : ℕ → ℕ} (e : Exchanges g h f back) where
             (λ k apart hk. get_or-set_other c (f i) (f k) (other s) 0
             (λ same. apart (same_cell k i (omega (arith, p.long)) (omega (arith, p.long)) same)) ∙ m.stones k hk)
 
-    -- After the other's move in the renamed game: it is a move of the first game under its other name.
-    renamed_answer : (s i : ℕ) → Side s → i < length c → get_or c i 0 ≡ 0 →
-        ((j : ℕ) → j < length b → get_or b j 0 ≡ 0 → (d : List ℕ) → Renamed f (set b j (other s)) d → CanForce h (other s) d (other s)) →
-        CanForce h (other s) (set c i (other (other s))) (other s)
-    renamed_answer s i side l z forces =
-        let (j, hj, zj, was) = empty_before i l z in
-        forces j hj zj (set c i (other (other s)))
-        (subst (λ k. Renamed f (set b j (other s)) (set c k (other (other s)))) was (renamed_set j (other s) (other_side s side) hj))
-
   -- What one side can force, the other can in the renamed game: each move is made under its other name.
   pub force_renamed : {s : ℕ} → Side s → {b : List ℕ} {t : ℕ} → CanForce g s b t → (c : List ℕ) → IsPosition g b → Renamed f b c →
       CanForce h (other s) c (other t)
   force_renamed {s} side {b} (has t w) c p m = has (other t) (e.wins s b c side p m w)
   force_renamed {s} side {b} (mine i l z k) c p m =
-      mine (f i) (renamed_in p m i l) (renamed_empty p m i z l)
+      mine (f i) (renamed_in p m i l) (m.stones i l ∙ ap opposite_stone z)
       (force_renamed side k (set c (f i) (other s)) (set_position i s (omega arith) p) (renamed_set p m i s side l))
   force_renamed {s} side {b} (theirs q k) c p m =
       let (j, l, z) = some_empty b q in
-      theirs (empty_counts c (f j) (renamed_in p m j l) (renamed_empty p m j z l))
-      (λ i hi zi. renamed_answer p m s i side hi zi (λ i hj zj d n. force_renamed side (k i hj zj) d (set_position i (other s) (omega arith) p) n))
+      theirs (empty_counts c (f j) (renamed_in p m j l) (m.stones j l ∙ ap opposite_stone z))
+      (λ i hi zi. let (j, hj, zj, was) = empty_before p m i hi zi in
+      subst (λ n. CanForce h (other s) (set c n (other (other s))) (other s)) was
+      (force_renamed side (k j hj zj) (set c (f j) (other (other s))) (set_position j (other s) (omega arith) p)
+      (renamed_set p m j (other s) (other_side s side) hj)))
 
 -- In a position that is renamed to itself, whoever is to move can force that it wins. If the other could, then so could this one as the
 -- one who is not to move; and to be to move is never a loss.
