@@ -1,6 +1,7 @@
 pub mod Board
 pub mod Games
 pub mod Promise
+pub mod Laying
 pub mod Geometry
 pub mod Rows
 pub mod Sides

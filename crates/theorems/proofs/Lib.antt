@@ -7,6 +7,10 @@ pub mod MustEnd
 pub mod Cells
 pub mod Line
 pub mod NeverNeither
+pub mod Advantage
+pub mod Outcome
+pub mod Renaming
+pub mod Squares
 pub mod Better
 pub mod Mirror
 pub mod NotBoth

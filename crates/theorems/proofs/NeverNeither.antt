@@ -7,10 +7,10 @@ use Rattle.hexboard.specs.Board.{Board, at, next_to, begins, ends, goes_on, Conn
 use Rattle.hexboard.specs.Promise.{Good, NeverNeither}
 use Rattle.hexboard.specs.Rows.{Stone}
 use Rattle.hexboard.proofs.Boards.{good_at}
-use Rattle.theorems.proofs.Stones.{Side, Against, against_other, either_way, empty_counts}
+use Rattle.theorems.proofs.Stones.{Side, against_other, either_way, empty_counts}
 use Rattle.theorems.proofs.Ways.{goes_on_from, way_from}
 use Rattle.theorems.proofs.Cells.{Cell, Near, along}
-use Rattle.theorems.proofs.Line.{On, Led, first, more, Across, one_connects}
+use Rattle.theorems.proofs.Line.{On, Led, first, more, OnBoard, Across, one_connects}
 
 -- the side that the line calls `true`, and the other
 abbrev side : Bool → ℕ
@@ -51,7 +51,7 @@ module _ (b : Board) (g : Good b) (none : empties b.cells ≡ 0) where
   colour p = eqb (at b (number b.wide p)) 1
 
   -- No cell is empty, so each cell of a side has a stone of it.
-  stone : (s : Bool) (p : Cell) → On b.wide b.wide colour s p → Stone b (side s) (number b.wide p)
+  stone : (s : Bool) (p : Cell) → On (OnBoard b.wide b.wide) colour s p → Stone b (side s) (number b.wide p)
   unfolding number colour
   stone s p on =
       let i = number b.wide p in
@@ -59,31 +59,31 @@ module _ (b : Board) (g : Good b) (none : empties b.cells ≡ 0) where
       (h, of_side s (at b i) (good_at b i g) (λ z. omega (arith, empty_counts b.cells i h z)) on.mine)
 
   -- What is led to is a cell of the board.
-  end_on : (s : Bool) {p : Cell} → Led b.wide b.wide colour s p → On b.wide b.wide colour s p
+  end_on : (s : Bool) {p : Cell} → Led (OnBoard b.wide b.wide) colour s p → On (OnBoard b.wide b.wide) colour s p
   end_on s (first on _) = on
   end_on s (more _ _ on) = on
 
   -- The first row and column of the line are the first borders, the last ones the last.
-  at_first : (s : Bool) (p : Cell) → On b.wide b.wide colour s p → along s p ≡ 1 → begins b.wide (side s) (number b.wide p) ≡ true
+  at_first : (s : Bool) (p : Cell) → On (OnBoard b.wide b.wide) colour s p → along s p ≡ 1 → begins b.wide (side s) (number b.wide p) ≡ true
   at_first s p on e =
-      let r = number_row b.wide p on.left on.right in
-      let c = number_column b.wide p on.left on.right in
+      let r = number_row b.wide p on.left on.inside.1 in
+      let c = number_column b.wide p on.left on.inside.1 in
       grind (arith, nat_tests)
 
-  at_last : (s : Bool) (p : Cell) → On b.wide b.wide colour s p → along s p ≡ cond s b.wide b.wide → ends b.wide (side s) (number b.wide p) ≡ true
+  at_last : (s : Bool) (p : Cell) → On (OnBoard b.wide b.wide) colour s p → along s p ≡ cond s b.wide b.wide → ends b.wide (side s) (number b.wide p) ≡ true
   at_last s p on e =
-      let r = number_row b.wide p on.left on.right in
-      let c = number_column b.wide p on.left on.right in
+      let r = number_row b.wide p on.left on.inside.1 in
+      let c = number_column b.wide p on.left on.inside.1 in
       grind (arith, nat_tests)
 
   -- A row of cells from the first border, and what goes on from its last, are a way.
-  led_way : (s : Bool) {p : Cell} → Led b.wide b.wide colour s p → (js : List ℕ) → goes_on b (side s) (number b.wide p) js ≡ true → Connects b (side s)
+  led_way : (s : Bool) {p : Cell} → Led (OnBoard b.wide b.wide) colour s p → (js : List ℕ) → goes_on b (side s) (number b.wide p) js ≡ true → Connects b (side s)
   led_way s (first {p} on e) js go = (number b.wide p ∷ js, way_from b (side s) (number b.wide p) js (at_first s p on e) (stone s p on) go)
   led_way s (more {p} {q} led near on) js go =
       let o = end_on s led in
       led_way s led (number b.wide q ∷ js)
       (goes_on_from b (side s) (number b.wide p) (number b.wide q) js
-      (touch b.wide p q o.top on.top o.left on.left o.right on.right near) (stone s q on) go)
+      (touch b.wide p q o.top on.top o.left on.left o.inside.1 on.inside.1 near) (stone s q on) go)
 
   -- A row of cells to the last border is a way.
   across_way : (s : Bool) → Across b.wide b.wide colour s → Connects b (side s)
@@ -95,12 +95,9 @@ pub never_neither_lem : NeverNeither
 unfolding NeverNeither
 never_neither_lem b g none = ⊎_map (across_way b g none true) (across_way b g none false) (one_connects b.wide b.wide (colour b g none) g.0 g.0)
 
--- Never neither, for the sides in either order.
-pub never_neither_of : (b : Board) (s r : ℕ) → Against s r → Good b → empties b.cells ≡ 0 → Connects b s ⊎ Connects b r
-unfolding NeverNeither
-never_neither_of b s r a g none =
-    either_way (λ x y. Connects b x ⊎ Connects b y) s r a (never_neither_lem b g none) (⊎_swap (never_neither_lem b g none))
-
 -- On a full board, who has not connected has lost.
 pub else_other : (b : Board) (s : ℕ) → Good b → Side s → empties b.cells ≡ 0 → (Connects b s → ⊥) → Connects b (other s)
-else_other b s g side none not = ⊎_elim (λ w. absurd (not w)) (λ w. w) (never_neither_of b s (other s) (against_other s side) g none)
+unfolding NeverNeither
+else_other b s g side none not =
+    let one = never_neither_lem b g none in
+    ⊎_elim (λ w. absurd (not w)) (λ w. w) (either_way (λ x y. Connects b x ⊎ Connects b y) s (other s) (against_other s side) one (⊎_swap one))

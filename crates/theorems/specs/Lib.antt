@@ -1,3 +1,4 @@
+pub mod Forcing
 pub mod Search
 pub mod Settled
 pub mod Worked
