@@ -26,9 +26,9 @@ pub unseen : {mine theirs : Links} {p : Position} {own threats : ℕ} {cut : Cut
 unseen c none d r some (connects k free joins) = omega (arith, c.all k free joins, ap (bit k) none, bit_none k)
 unseen {cut = cut} c none d r some (threatened threats cut' d' r' nothing) =
     let empty : cut.must ≡ 0 = no_cell cut.must (λ k meets.
-        let (t, apart, lost) = r'.left k (r.inside k meets) (ap (bit k) nothing ∙ bit_none k) in
-        let threat = r'.lost_in t lost in
-        apart (r.meets k t meets (d.all t (d'.inside t threat) (d'.joins t threat)))) in
+    let (t, apart, lost) = r'.left k (r.inside k meets) (ap (bit k) nothing ∙ bit_none k) in
+    let threat = r'.lost_in t lost in
+    apart (r.meets k t meets (d.all t (d'.inside t threat) (d'.joins t threat)))) in
     omega arith
 
 -- A table has its own entries, those of a table before the one before, and one more.

@@ -22,8 +22,9 @@ struct Around {
 
 impl Grouped<'_> {
     // What the side's stones make of the empty cells.
-    pub fn prepare(&self, side: Side, cells: &ArrayVec<u16, 16>) -> Links
-        ensures { Prepared self.now.size.n (number side) self.now.stones.now self.now.parents.now self.now.borders.now cells.now.items result }
+    pub(crate) fn prepare(&self, side: Side, cells: &ArrayVec<u16, 16>) -> Links
+        ensures { Prepared self.now.size.n (number side) self.now.stones.now
+            self.now.parents.now self.now.borders.now cells.now.items result }
     {
         let sets = self.gather(side, cells);
         let mut near = [0; 16];
@@ -41,7 +42,9 @@ impl Grouped<'_> {
     // The empty cells gathered by what they touch: at the root of a group of the side, the set of those next to the group; at an
     // empty cell, the set of that cell alone.
     fn gather(&self, side: Side, cells: &ArrayVec<u16, 16>) -> [u64; 361]
-        ensures { result ≡ gathered (board self.now) (number side) (parents self.now) cells.now.items (length cells.now.items) }
+        ensures { result
+            ≡ gathered (board self.now) (number side) (parents self.now) cells.now.items
+            (length cells.now.items) }
     {
         let mut sets = [0; 361];
         for (k, cell) in cells.iter().enumerate() {
@@ -66,7 +69,8 @@ impl Grouped<'_> {
     // What lies around an empty cell: what its neighbours' roots have, unless they are stones of the other side.
     fn look_around(&self, side: Side, sets: &[u64], cell: u16) -> Around
         ensures near { result.near ≡ near_at (board self.now) (number side) (parents self.now) sets.now cell }
-        ensures borders { result.borders ≡ borders_at (board self.now) (number side) (parents self.now) self.now.borders.now cell }
+        ensures borders { result.borders
+            ≡ borders_at (board self.now) (number side) (parents self.now) self.now.borders.now cell }
     {
         let mut all = Around {
             near: 0,

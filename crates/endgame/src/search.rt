@@ -12,8 +12,8 @@ ghost use Rattle.endgame.specs.Findings.{carrier_of, StepsInto, NamesStep};
 ghost use Rattle.endgame.specs.Replies.{Replied};
 ghost use Rattle.endgame.specs.Choices.{WeighsBoth, FirstHeaviest};
 
-use super::links::Links;
-use super::winner::Winner;
+use crate::links::Links;
+use crate::winner::Winner;
 use ranking::{Cells, Ranking, get, lowest, one, put};
 
 // The stones laid since the end began, of the side to move and of the other, and the free cells.
@@ -41,7 +41,7 @@ impl Position {
 
 // Whether the side to move wins or loses; and the cells that this rests on, its carrier: even if all the other free cells go to the
 // loser, it stands. The step is the cell of a winning move, if one is known.
-#[derive(Clone, Copy, PartialEq, Eq, Debug)]
+#[derive(Clone, Copy)]
 pub enum Found {
     Won { carrier: u64, step: Option<u32> },
     Lost { carrier: u64 },
@@ -108,7 +108,7 @@ fn best(mine: &Links, theirs: &Links, at: Position, must: u64) -> u32
     best
 }
 
-// How much was done: how many positions were searched, and how many times one was looked at.
+/// What was done to answer a question: how many positions were searched, and how many times one was looked at.
 #[derive(Clone, Copy, PartialEq, Eq, Debug)]
 pub struct Effort {
     pub searched: u64,
@@ -181,7 +181,8 @@ impl Search {
         ensures named { entry table.old (place self.old.ranking.cells at.mine at.theirs) ≡ 0 → NamesStep result }
         ensures tells { Tells self.old.ranking.cells mine.now theirs.now at table.old table.new result }
         ensures kept { KeepsFinding self.old.ranking.cells mine.now theirs.now at table.new result }
-        ensures once { SearchesOnce self.old.ranking.cells mine.now theirs.now at self.old.effort self.new.effort table.old table.new }
+        ensures once { SearchesOnce self.old.ranking.cells mine.now theirs.now at
+            self.old.effort self.new.effort table.old table.new }
         ensures same { self.new.ranking ≡ self.old.ranking }
     {
         self.effort.looks += 1;

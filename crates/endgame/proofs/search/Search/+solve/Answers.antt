@@ -120,7 +120,7 @@ solve-requires t c =
         (
           omega (arith, ap total cells, c.requires.room, c.loop-must.auto.table),
           rw (c.after.ensures, cells)
-          (counting_accounts c.requires.node c.loop-must.invariant.counts c.best-step.result c.best-step.ensures.chosen c.loop-must.invariant.finds.inside c.args.self.now.ranking.few c.requires.accounts),
+              (counting_accounts c.requires.node c.loop-must.invariant.counts c.best-step.result c.best-step.ensures.chosen c.loop-must.invariant.finds.inside c.args.self.now.ranking.few c.requires.accounts),
         ),
       ),
     )
@@ -193,7 +193,7 @@ returns-in-Lost-clause-once t c =
     let at = (goal.at.returns-in-Lost-clause-once t c).After-solve in
     let k = c.best-step.result in
     let counts = counting_more c.requires.node c.loop-must.invariant.counts k c.best-step.ensures.chosen c.loop-must.invariant.finds.inside 0
-        (λ j i. absurd (omega (arith, i, bit_none j))) (bit_none k) (once-then t at) in
+    (λ j i. absurd (omega (arith, i, bit_none j))) (bit_none k) (once-then t at) in
     rw c.enter.ensures.counted
     (counting_all c.requires.node 1 (unseen c.completions.ensures (none t (goal.at.returns-in-Lost-clause-once t c).In_default) c.completions-2.ensures c.replies-cut.ensures (omega arith))
     (unknown t (goal.at.returns-in-Lost-clause-once t c).In_default-of_entry) counts (omega arith) (omega arith) (rw c.place-place.ensures at c.enter.ensures.written))
