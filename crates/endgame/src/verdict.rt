@@ -10,8 +10,7 @@ use crate::grouped::Grouped;
 use crate::search::{Effort, Found, Search};
 use hexboard::{Side, Size};
 
-/// Yes, by a move to this cell; no; or that too many cells are empty to look through the end. No is an answer, and too many is no
-/// failure, so this is no Result; as an Option in an Option it would not say which of the two is missing.
+/// Yes, by a move to this cell; no; or that too many cells are empty to look through the end.
 #[derive(Clone, Copy, PartialEq, Eq, Debug)]
 pub enum Verdict {
     Yes(u16),

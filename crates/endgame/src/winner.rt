@@ -10,7 +10,7 @@ pub enum Winner {
 }
 
 impl Winner {
-    // The winner that an entry tells, if it tells one. This is no TryFrom, since an entry that tells none yet is no error.
+    // The winner that an entry tells, if it tells one.
     pub fn of_entry(entry: u8) -> Option<Winner>
         ensures { Reads entry result }
     {

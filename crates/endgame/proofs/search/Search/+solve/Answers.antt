@@ -6,7 +6,7 @@ use Rattle.ranking.specs.Table.{entry}
 use Rattle.ranking.proofs.Bits.{bit_none, within_below, cell_le, cell_below, and_less, left_out, in_and, out_of_and}
 use Rattle.ranking.proofs.Members.{members_rest, members_empty}
 use Rattle.ranking.proofs.Ranks.{place_below}
-use Rattle.endgame.specs.Ends.{Tells, connects, threatened, moved}
+use Rattle.endgame.specs.Ends.{Tells, connects, threatened, position_after}
 use Rattle.endgame.specs.Searches.{SearchesOnce}
 use Rattle.endgame.specs.Winners.{entry_of}
 use Rattle.endgame.specs.declared.search.Found.{Found}
@@ -131,10 +131,10 @@ module _ (t : ℕ) (c : After-solve t) where
   within-then carrier = subst (λ p. Within carrier p.free) c.after.ensures
 
   tells-then : {found : Found} → Tells c.loop-must.self.ranking.cells c.args.theirs.now c.args.mine.now c.after.result c.loop-must.table c.solve.new.table found →
-      Tells c.args.self.now.ranking.cells c.args.theirs.now c.args.mine.now (moved c.args.at (2 ^ c.best-step.result)) c.loop-must.table c.solve.new.table found
+      Tells c.args.self.now.ranking.cells c.args.theirs.now c.args.mine.now (position_after c.args.at (2 ^ c.best-step.result)) c.loop-must.table c.solve.new.table found
   tells-then h = rw (c.after.ensures, ap (λ r. r.cells) c.loop-must.invariant.same) at h
 
-  once-then : SearchesOnce c.args.self.now.ranking.cells c.args.theirs.now c.args.mine.now (moved c.args.at (2 ^ c.best-step.result)) c.loop-must.self.effort c.solve.new.self.effort c.loop-must.table c.solve.new.table
+  once-then : SearchesOnce c.args.self.now.ranking.cells c.args.theirs.now c.args.mine.now (position_after c.args.at (2 ^ c.best-step.result)) c.loop-must.self.effort c.solve.new.self.effort c.loop-must.table c.solve.new.table
   once-then = rw (c.after.ensures, ap (λ r. r.cells) c.loop-must.invariant.same) at c.solve.ensures.once
 
   same-then : c.solve.new.self.ranking ≡ c.args.self.now.ranking
