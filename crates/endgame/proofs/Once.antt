@@ -15,20 +15,20 @@ use Rattle.endgame.specs.declared.search.Effort.{Effort}
 use Rattle.endgame.specs.declared.search.Position.{Position}
 use Rattle.endgame.specs.Floods.{Completions}
 use Rattle.endgame.specs.Replies.{Replied}
-use Rattle.endgame.specs.Ends.{Node, Seen, connects, threatened, moved}
+use Rattle.endgame.specs.Ends.{Node, IsSeen, connects, threatened, position_after}
 use Rattle.endgame.specs.Efforts.{nothing_done, one_more_searched}
 use Rattle.endgame.specs.Searches.{entries, moves, stones_of, IsReadable, Accounts, Extends, SearchesOnce, IsOnce}
 use Rattle.endgame.proofs.Nodes.{no_stone}
 
 -- Where no cell connects at once, and some cell meets all threats, nothing is decided by looking at the position.
 pub unseen : {mine theirs : Links} {p : Position} {own threats : ℕ} {cut : Cut} → Completions mine p.mine p.free own → own ≡ 0 →
-    Completions theirs p.theirs p.free threats → Replied threats p.free cut → 0 < cut.must → Seen mine theirs p → ⊥
+    Completions theirs p.theirs p.free threats → Replied threats p.free cut → 0 < cut.must → IsSeen mine theirs p → ⊥
 unseen c none d r some (connects k free joins) = omega (arith, c.all k free joins, ap (bit k) none, bit_none k)
 unseen {cut = cut} c none d r some (threatened threats cut' d' r' nothing) =
     let empty : cut.must ≡ 0 = no_cell cut.must (λ k meets.
-        let (t, apart, lost) = r'.left k (r.inside k meets) (ap (bit k) nothing ∙ bit_none k) in
-        let threat = r'.lost_in t lost in
-        apart (r.meets k t meets (d.all t (d'.inside t threat) (d'.joins t threat)))) in
+    let (t, apart, lost) = r'.left k (r.inside k meets) (ap (bit k) nothing ∙ bit_none k) in
+    let threat = r'.lost_in t lost in
+    apart (r.meets k t meets (d.all t (d'.inside t threat) (d'.joins t threat)))) in
     omega arith
 
 -- A table has its own entries, those of a table before the one before, and one more.
@@ -55,7 +55,7 @@ module _ {e : ℕ} {p : Position} (node : Node e p.mine p.theirs p.free) where
   free_here = omega (arith, free_there e p.mine p.theirs node.position, ones_shared e p.mine p.theirs p.free node.position.mine_fits node.position.theirs_fits node.free_fits node.each)
 
   -- there is one stone more after a move
-  pub stones_after : (k : ℕ) → bit k p.free ≡ 1 → stones_of (moved p (2 ^ k)) ≡ stones_of p + 1
+  pub stones_after : (k : ℕ) → bit k p.free ≡ 1 → stones_of (position_after p (2 ^ k)) ≡ stones_of p + 1
   stones_after k free = omega (arith, ones_more k p.mine (no_stone node k free).1)
 
   -- at first a look was taken, and each of the free cells may be tried
@@ -73,14 +73,14 @@ module _ {e : ℕ} {p : Position} (node : Node e p.mine p.theirs p.free) where
     few_cells = ones-le e p.free node.free_fits
 
     -- what was done is accounted for where a move leads to
-    pub counting_accounts : e ≤ 16 → Accounts e p before t → Accounts e (moved p (2 ^ k)) now u
+    pub counting_accounts : e ≤ 16 → Accounts e p before t → Accounts e (position_after p (2 ^ k)) now u
     counting_accounts few a =
         let one : 0 < ones must = omega (arith, ones_fewer e k 0 must (within_below e must p.free inside node.free_fits) (λ j i. absurd (omega (arith, i, bit_none j))) of (bit_none k)) in
         record { readable = h.readable; searched = h.searched; looks = omega (arith, stones_after k (inside k of), h.few, a.looks, few_cells, one) }
 
     -- one move was tried, and fewer are left
     pub counting_more : {mine theirs : Links} {after : Effort} {v : List ℕ} (rest : ℕ) → Within rest must → bit k rest ≡ 0 →
-        SearchesOnce e theirs mine (moved p (2 ^ k)) now after u v → Counting e p before after t v rest
+        SearchesOnce e theirs mine (position_after p (2 ^ k)) now after u v → Counting e p before after t v rest
     counting_more {v = v} rest fewer gone once = record {
       extends = extends_more h.extends (subst (λ m. Extends e m u v) (stones_after k (inside k of)) once.extends);
       readable = once.readable;
@@ -90,7 +90,7 @@ module _ {e : ℕ} {p : Position} (node : Node e p.mine p.theirs p.free) where
     }
 
   -- nothing is left to try, and what was found is entered
-  pub counting_all : {mine theirs : Links} {before now : Effort} {t u w : List ℕ} {must : ℕ} (v : ℕ) → (Seen mine theirs p → ⊥) → entry t (place e p.mine p.theirs) ≡ 0 →
+  pub counting_all : {mine theirs : Links} {before now : Effort} {t u w : List ℕ} {must : ℕ} (v : ℕ) → (IsSeen mine theirs p → ⊥) → entry t (place e p.mine p.theirs) ≡ 0 →
       Counting e p before now t u must → 0 < v → v < 3 → Put u w (place e p.mine p.theirs) v → SearchesOnce e mine theirs p before (one_more_searched now) t w
   counting_all {t = t} {u = u} {w = w} v not_seen unknown h some small written =
       let here : ℕ = place e p.mine p.theirs in

@@ -18,7 +18,7 @@ use Rattle.endgame.specs.Ends.{Numbered}
 use Rattle.endgame.specs.Gathering.{gathered, near_at, borders_at}
 use Rattle.endgame.specs.Linked.{Linked, Bound}
 use Rattle.endgame.specs.Linked.{Holds as SetOf}
-use Rattle.endgame.specs.Prepared.{Prepared}
+use Rattle.endgame.specs.Prepared.{ArePrepared}
 use Rattle.endgame.proofs.Gathered.{nothing}
 use Rattle.endgame.proofs.Ties.{near_only, near_all, bound_only, bound_all}
 
@@ -98,7 +98,7 @@ linked b f g small good w side es num l h = record {
 
 -- So it is for the stones whose board and groups the memory keeps.
 pub prepared : (n w : ℕ) → 0 < n → n ≤ 19 → (w ≡ 1) ⊎ (w ≡ 2) → (stones ps bs es : List ℕ) (l : Links) →
-    Preparing (near_of (laid n stones) w (held ps bs) es) (borders_of (laid n stones) w (held ps bs) es) (length es) l.near l.first l.last → Prepared n w stones ps bs es l
+    Preparing (near_of (laid n stones) w (held ps bs) es) (borders_of (laid n stones) w (held ps bs) es) (length es) l.near l.first l.last → ArePrepared n w stones ps bs es l
 prepared n w some few side stones ps bs es l h on lead num =
     linked (board_of n on) (forest_of n on) (legal_sound n on lead.legal).holds (omega (arith, board_cells n on lead.legal, mul-le-mul few few)) (board_good n on lead.legal some) w side es num l
     (subst₂ (λ b f. Preparing (near_of b w f es) (borders_of b w f es) (length es) l.near l.first l.last) (board_laid n on stones lead.cells) lead.groups h)

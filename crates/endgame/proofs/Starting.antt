@@ -20,8 +20,8 @@ use Rattle.endgame.specs.Floods.{Joins}
 use Rattle.endgame.specs.Linked.{Linked}
 use Rattle.endgame.specs.declared.search.Found.{Found}
 use Rattle.endgame.specs.declared.search.Found.TheVariants.{Won, Lost}
-use Rattle.endgame.specs.Ends.{mark, Stands, Node, Ending, Sound, unknown, Told, Tells}
-use Rattle.endgame.specs.Searched.{Looked}
+use Rattle.endgame.specs.Ends.{mark, Stands, Node, Ending, IsSound, unknown, IsTold, Tells}
+use Rattle.endgame.specs.Searched.{TellsWinner}
 use Rattle.endgame.specs.Verdicts.{bytes_of_table}
 use Rattle.endgame.proofs.Carried.{mark_empty, mark_other, forced_by}
 use Rattle.endgame.proofs.Law.{describes}
@@ -45,7 +45,7 @@ node_first e = record {
 }
 
 -- a table that says nothing says nothing wrong
-sound_first : {e : ℕ} {b : Board} {es : List ℕ} {a : ℕ} (t : List ℕ) → ((i : ℕ) → entry t i ≡ 0) → Sound e b es a t
+sound_first : {e : ℕ} {b : Board} {es : List ℕ} {a : ℕ} (t : List ℕ) → ((i : ℕ) → entry t i ≡ 0) → IsSound e b es a t
 sound_first {e} t nothing s x y free turn node = unknown (nothing (place e x y))
 
 -- no stones join no borders
@@ -53,7 +53,7 @@ no_stones : (l : Links) → Joins l 0 → ⊥
 no_stones l j = omega (arith, j.stone, bit_none j.cell)
 
 pub looked_first : (e : ℕ) (mine theirs : Links) (t u : List ℕ) (f : Found) → ((i : ℕ) → entry t i ≡ 0) →
-    Tells e mine theirs (record { mine = 0; theirs = 0; free = 2 ^ e - 1 }) t u f → Looked e mine theirs f
+    Tells e mine theirs (record { mine = 0; theirs = 0; free = 2 ^ e - 1 }) t u f → TellsWinner e mine theirs f
 looked_first e mine theirs t u f nothing h b es s end =
     (h.of b es s s end (inl (refl, refl)) (no_stones mine) (no_stones theirs) (sound_first t nothing)).0
 
@@ -96,7 +96,7 @@ ending {b} {es} {s} {mine} {theirs} good side n own others apart apart-too = rec
 }
 
 -- The search says that the side to move loses: it cannot force.
-pub not_forced : {e : ℕ} {b : Board} {es : List ℕ} {s : ℕ} {mine theirs : Links} (carrier : ℕ) → Ending e b es s mine theirs → Told b es s 0 0 (2 ^ e - 1) (Lost carrier) →
+pub not_forced : {e : ℕ} {b : Board} {es : List ℕ} {s : ℕ} {mine theirs : Links} (carrier : ℕ) → Ending e b es s mine theirs → IsTold b es s 0 0 (2 ^ e - 1) (Lost carrier) →
     Forces s b s → ⊥
 not_forced {b = b} {s = s} carrier end told can =
     let back : other (other s) ≡ s = omega (arith, end.side) in
@@ -105,7 +105,7 @@ not_forced {b = b} {s = s} carrier end told can =
 
 -- It names a move: that is to an empty cell, and then the side can force.
 pub forced_by_move : {e : ℕ} {b : Board} {es : List ℕ} {s : ℕ} {mine theirs : Links} (carrier k : ℕ) → Ending e b es s mine theirs →
-    Told b es s 0 0 (2 ^ e - 1) (Won carrier (Some k)) → (get_or es k 0 < length b.cells) × (at b (get_or es k 0) ≡ 0) × Forces s (put b s (get_or es k 0)) (other s)
+    IsTold b es s 0 0 (2 ^ e - 1) (Won carrier (Some k)) → (get_or es k 0 < length b.cells) × (at b (get_or es k 0) ≡ 0) × Forces s (put b s (get_or es k 0)) (other s)
 forced_by_move {e} {es = es} {s = s} carrier k end told =
     let step = told.1 in
     let l = cell_below e k (2 ^ e - 1) (node_first e).free_fits step.of in

@@ -37,4 +37,5 @@ near_at b w ps sets i = over (joined_at b w ps (by_root sets)) (neighbour_of b.w
 
 -- the borders of side w that cell i touches, itself or through stones, from the borders by roots
 abbrev pub borders_at : Board → ℕ → List ℕ → List ℕ → ℕ → ℕ
-borders_at b w ps bs i = over (joined_at b w ps (by_root bs)) (neighbour_of b.wide i) 6 (touch b.wide w i)
+borders_at b w ps bs i =
+    over (joined_at b w ps (by_root bs)) (neighbour_of b.wide i) 6 (touch b.wide w i)

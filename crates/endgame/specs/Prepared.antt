@@ -12,7 +12,7 @@ pub record LeadTo (n : ℕ) (laid : List Placement) (stones parents borders : Li
   pub groups : KeepsGroups n laid parents borders
 
 -- Whatever stones lead to what is in memory, the links of side w tell what its stones make of the empty cells es.
-abbrev pub Prepared : ℕ → ℕ → List ℕ → List ℕ → List ℕ → List ℕ → Links → Type 0
-Prepared n w stones parents borders es l =
+abbrev pub ArePrepared : ℕ → ℕ → List ℕ → List ℕ → List ℕ → List ℕ → Links → Type 0
+ArePrepared n w stones parents borders es l =
     (laid : List Placement) → LeadTo n laid stones parents borders →
     Numbered (board_of n laid) es → Linked (board_of n laid) es w l

@@ -4,7 +4,7 @@ ghost use Rattle.std.specs.Prelude.{◌≡◌, ℕ, ◌*◌, length};
 use arrayvec::ArrayVec;
 use hexboard::Size;
 
-// The stones of a position, a byte for each cell, and the memory of their groups, as the crate `groups` lays it out.
+/// The stones of a position, a byte for each cell, and the memory of their groups, as the crate `groups` lays it out.
 #[derive(Clone, Copy)]
 pub struct Grouped<'a> {
     pub size: Size,
@@ -20,8 +20,9 @@ impl Grouped<'_> {
     ghost use Rattle.endgame.specs.Cells.{Lists};
 
     // The empty cells in their order, or none if there are more than 16.
-    pub fn number(&self) -> Option<ArrayVec<u16, 16>>
-        ensures { MatchOption result (16 < empties self.now.stones.now) (λ cells. Lists self.now.stones.now cells.items) }
+    pub(crate) fn number(&self) -> Option<ArrayVec<u16, 16>>
+        ensures { MatchOption result (16 < empties self.now.stones.now)
+            (λ cells. Lists self.now.stones.now cells.items) }
     {
         let mut cells = ArrayVec::new();
         for (cell, stone) in self.stones.iter().enumerate() {

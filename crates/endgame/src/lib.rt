@@ -10,7 +10,5 @@ mod verdict;
 mod winner;
 
 pub use grouped::Grouped;
-pub use links::Links;
-pub use search::{Effort, Found, Position, Search};
+pub use search::Effort;
 pub use verdict::{Verdict, can_force, table_bytes};
-pub use winner::Winner;

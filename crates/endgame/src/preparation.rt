@@ -4,7 +4,7 @@ ghost use Rattle.hexboard.specs.Board.{pick};
 ghost use Rattle.hexboard.specs.Sides.{number};
 ghost use Rattle.endgame.specs.Gathering.{enter, entered_all, gathered, near_at, borders_at};
 ghost use Rattle.endgame.specs.Grouped.{board, parents};
-ghost use Rattle.endgame.specs.Prepared.{Prepared};
+ghost use Rattle.endgame.specs.Prepared.{ArePrepared};
 
 use crate::grouped::Grouped;
 use crate::links::Links;
@@ -22,8 +22,9 @@ struct Around {
 
 impl Grouped<'_> {
     // What the side's stones make of the empty cells.
-    pub fn prepare(&self, side: Side, cells: &ArrayVec<u16, 16>) -> Links
-        ensures { Prepared self.now.size.n (number side) self.now.stones.now self.now.parents.now self.now.borders.now cells.now.items result }
+    pub(crate) fn prepare(&self, side: Side, cells: &ArrayVec<u16, 16>) -> Links
+        ensures { ArePrepared self.now.size.n (number side) self.now.stones.now
+            self.now.parents.now self.now.borders.now cells.now.items result }
     {
         let sets = self.gather(side, cells);
         let mut near = [0; 16];
@@ -41,7 +42,9 @@ impl Grouped<'_> {
     // The empty cells gathered by what they touch: at the root of a group of the side, the set of those next to the group; at an
     // empty cell, the set of that cell alone.
     fn gather(&self, side: Side, cells: &ArrayVec<u16, 16>) -> [u64; 361]
-        ensures { result ≡ gathered (board self.now) (number side) (parents self.now) cells.now.items (length cells.now.items) }
+        ensures { result
+            ≡ gathered (board self.now) (number side) (parents self.now) cells.now.items
+            (length cells.now.items) }
     {
         let mut sets = [0; 361];
         for (k, cell) in cells.iter().enumerate() {
@@ -66,7 +69,8 @@ impl Grouped<'_> {
     // What lies around an empty cell: what its neighbours' roots have, unless they are stones of the other side.
     fn look_around(&self, side: Side, sets: &[u64], cell: u16) -> Around
         ensures near { result.near ≡ near_at (board self.now) (number side) (parents self.now) sets.now cell }
-        ensures borders { result.borders ≡ borders_at (board self.now) (number side) (parents self.now) self.now.borders.now cell }
+        ensures borders { result.borders
+            ≡ borders_at (board self.now) (number side) (parents self.now) self.now.borders.now cell }
     {
         let mut all = Around {
             near: 0,
@@ -83,20 +87,18 @@ impl Grouped<'_> {
     }
 }
 
-// Puts the k-th empty cell into the set at a place; nothing where there is no such place. That k is below 64 is asked three times here
-// and is no type: all is called from two loops over a list of 16.
+// Puts the k-th empty cell into the set at a place; nothing where there is no such place.
 fn enter(sets: &mut [u64], place: u16, k: u32)
     requires { k < 64 }
     ensures { sets.new ≡ enter k place sets.old }
 {
     let at = usize::from(place);
-    // Not `get_mut`: of a slice after it no more is known than its length.
     if at < sets.len() {
         sets[at] |= one(k);
     }
 }
 
-// The set at a place; none where there is no such place. One line of std, as `groups::touched` is for bytes.
+// The set at a place; none where there is no such place.
 fn read(sets: &[u64], place: u16) -> u64
     ensures { result ≡ slice_index sets.now place }
 {

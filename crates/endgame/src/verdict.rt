@@ -10,8 +10,7 @@ use crate::grouped::Grouped;
 use crate::search::{Effort, Found, Search};
 use hexboard::{Side, Size};
 
-// Yes, by a move to this cell; no; or that too many cells are empty to look through the end. No is an answer, and too many is no
-// failure, so this is no Result; as an Option in an Option it would not say which of the two is missing.
+/// Yes, by a move to this cell; no; or that too many cells are empty to look through the end.
 #[derive(Clone, Copy, PartialEq, Eq, Debug)]
 pub enum Verdict {
     Yes(u16),
@@ -19,20 +18,23 @@ pub enum Verdict {
     TooMany,
 }
 
-// How many bytes of table are enough on a board of this size.
+/// How many bytes of table are enough on a board of this size.
 pub fn table_bytes(size: Size) -> usize
     ensures { result ≡ bytes_of_table size.n }
 {
     if size.width() < 4 { 1512 } else { 2541445 }
 }
 
-// Whether a side to move can force that it connects, in a position where nobody has connected; and what was done to find out. More than 16
-// empty cells are too many. The table may hold anything before and afterwards.
+/// Whether a side to move can force that it connects, in a position where nobody has connected; and what was done to find out. More than 16
+/// empty cells are too many: then nothing is done. The table may hold anything before; afterwards it has the winners of the positions that
+/// were searched.
 pub fn can_force(position: &Grouped, side: Side, table: &mut [u8]) -> (Verdict, Effort)
     requires { bytes_of_table position.now.size.n ≤ length table.old }
-    ensures right { Judges position.now.size.n (number side) position.now.stones.now position.now.parents.now position.now.borders.now result.0 }
+    ensures right { Judges position.now.size.n (number side)
+        position.now.stones.now position.now.parents.now position.now.borders.now result.0 }
     ensures many { 16 < empties position.now.stones.now → result ≡ (Verdict.TooMany, nothing_done) }
-    ensures once { empties position.now.stones.now ≤ 16 → IsOnce (empties position.now.stones.now) result.1 table.new }
+    ensures once { empties position.now.stones.now ≤ 16 →
+        IsOnce (empties position.now.stones.now) result.1 table.new }
 {
     let Some(cells) = position.number() else {
         return (Verdict::TooMany, Effort::none());

@@ -44,8 +44,8 @@ total e = start e (e + 1)
 unfoldable pub place : ℕ → ℕ → ℕ → ℕ
 place e mine theirs = start e (count_ones mine + count_ones theirs) + rank e mine theirs
 
--- how many stones there are in the positions at place i, if there are at most m: as many as the last number of stones with which
--- positions begin there or before
+-- how many stones the position at place i has, if it has at most m: the positions with so many begin
+-- there or before, and those with one more do not
 unfoldable pub stones_up_to : ℕ → ℕ → ℕ → ℕ
 stones_up_to e i zero = 0
 stones_up_to e i (suc m) = cond (nat_le (start e (suc m)) i) (suc m) (stones_up_to e i m)

@@ -11,7 +11,7 @@ pub use positions::Ranking;
 pub use sets::{Cells, lowest, one};
 pub use table::{clear, get, put};
 
-// Each position's place lies below `total`, and no two positions share one. A law of the definitions alone: there is nothing to run.
+/// Each position's place lies below `total`, and no two positions share one. A law of the definitions alone: there is nothing to run.
 pub fn positions_have_places()
     ensures below { EachBelow }
     ensures once { NoneShared }

@@ -4,10 +4,10 @@ use Rattle.hexboard.proofs.Boards.{side_number, empties_few}
 use Rattle.hexboard.specs.Board.{other, empties}
 use Rattle.hexboard.specs.Sides.{number}
 use Rattle.ranking.proofs.Bits.{cell_below}
-use Rattle.endgame.specs.Prepared.{Prepared}
+use Rattle.endgame.specs.Prepared.{ArePrepared}
 use Rattle.endgame.specs.declared.search.Found.{Found}
 use Rattle.endgame.specs.declared.search.Found.TheVariants.{Won, Lost}
-use Rattle.endgame.specs.Searched.{Looked}
+use Rattle.endgame.specs.Searched.{TellsWinner}
 use Rattle.endgame.specs.Searches.{IsOnce}
 use Rattle.endgame.proofs.Once.{once_front}
 use Rattle.endgame.specs.Verdicts.{Judges}
@@ -38,12 +38,12 @@ look_through-requires-clause-room c =
 
 -- What the links and the search tell, said of the other side and of the cells that are listed.
 module _ (c : After-look_through) where
-  others : Prepared c.args.position.now.size.n (other (number c.args.side)) c.args.position.now.stones.now c.args.position.now.parents.now c.args.position.now.borders.now c.in-Some.cells.items c.prepare-theirs.result
+  others : ArePrepared c.args.position.now.size.n (other (number c.args.side)) c.args.position.now.stones.now c.args.position.now.parents.now c.args.position.now.borders.now c.in-Some.cells.items c.prepare-theirs.result
   others =
       let g = c.args.position.now in
-      subst (λ w. Prepared g.size.n w g.stones.now g.parents.now g.borders.now c.in-Some.cells.items c.prepare-theirs.result) c.opponent.ensures c.prepare-theirs.ensures
+      subst (λ w. ArePrepared g.size.n w g.stones.now g.parents.now g.borders.now c.in-Some.cells.items c.prepare-theirs.result) c.opponent.ensures c.prepare-theirs.ensures
 
-  looked : (found : Found) → Looked c.new-search.result.ranking.cells c.prepare-mine.result c.prepare-theirs.result found → Looked (length c.in-Some.cells.items) c.prepare-mine.result c.prepare-theirs.result found
+  looked : (found : Found) → TellsWinner c.new-search.result.ranking.cells c.prepare-mine.result c.prepare-theirs.result found → TellsWinner (length c.in-Some.cells.items) c.prepare-mine.result c.prepare-theirs.result found
   looked found told = rw (sym c.len.ensures.value, sym c.new-search.ensures.cells) told
 
 pub returns-in-Lost-clause-right : goal.returns-in-Lost-clause-right

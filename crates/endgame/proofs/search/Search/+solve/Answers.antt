@@ -6,7 +6,7 @@ use Rattle.ranking.specs.Table.{entry}
 use Rattle.ranking.proofs.Bits.{bit_none, within_below, cell_le, cell_below, and_less, left_out, in_and, out_of_and}
 use Rattle.ranking.proofs.Members.{members_rest, members_empty}
 use Rattle.ranking.proofs.Ranks.{place_below}
-use Rattle.endgame.specs.Ends.{Tells, connects, threatened, moved}
+use Rattle.endgame.specs.Ends.{Tells, connects, threatened, position_after}
 use Rattle.endgame.specs.Searches.{SearchesOnce}
 use Rattle.endgame.specs.Winners.{entry_of}
 use Rattle.endgame.specs.declared.search.Found.{Found}
@@ -120,7 +120,7 @@ solve-requires t c =
         (
           omega (arith, ap total cells, c.requires.room, c.loop-must.auto.table),
           rw (c.after.ensures, cells)
-          (counting_accounts c.requires.node c.loop-must.invariant.counts c.best-step.result c.best-step.ensures.chosen c.loop-must.invariant.finds.inside c.args.self.now.ranking.few c.requires.accounts),
+              (counting_accounts c.requires.node c.loop-must.invariant.counts c.best-step.result c.best-step.ensures.chosen c.loop-must.invariant.finds.inside c.args.self.now.ranking.few c.requires.accounts),
         ),
       ),
     )
@@ -131,10 +131,10 @@ module _ (t : ℕ) (c : After-solve t) where
   within-then carrier = subst (λ p. Within carrier p.free) c.after.ensures
 
   tells-then : {found : Found} → Tells c.loop-must.self.ranking.cells c.args.theirs.now c.args.mine.now c.after.result c.loop-must.table c.solve.new.table found →
-      Tells c.args.self.now.ranking.cells c.args.theirs.now c.args.mine.now (moved c.args.at (2 ^ c.best-step.result)) c.loop-must.table c.solve.new.table found
+      Tells c.args.self.now.ranking.cells c.args.theirs.now c.args.mine.now (position_after c.args.at (2 ^ c.best-step.result)) c.loop-must.table c.solve.new.table found
   tells-then h = rw (c.after.ensures, ap (λ r. r.cells) c.loop-must.invariant.same) at h
 
-  once-then : SearchesOnce c.args.self.now.ranking.cells c.args.theirs.now c.args.mine.now (moved c.args.at (2 ^ c.best-step.result)) c.loop-must.self.effort c.solve.new.self.effort c.loop-must.table c.solve.new.table
+  once-then : SearchesOnce c.args.self.now.ranking.cells c.args.theirs.now c.args.mine.now (position_after c.args.at (2 ^ c.best-step.result)) c.loop-must.self.effort c.solve.new.self.effort c.loop-must.table c.solve.new.table
   once-then = rw (c.after.ensures, ap (λ r. r.cells) c.loop-must.invariant.same) at c.solve.ensures.once
 
   same-then : c.solve.new.self.ranking ≡ c.args.self.now.ranking
@@ -193,7 +193,7 @@ returns-in-Lost-clause-once t c =
     let at = (goal.at.returns-in-Lost-clause-once t c).After-solve in
     let k = c.best-step.result in
     let counts = counting_more c.requires.node c.loop-must.invariant.counts k c.best-step.ensures.chosen c.loop-must.invariant.finds.inside 0
-        (λ j i. absurd (omega (arith, i, bit_none j))) (bit_none k) (once-then t at) in
+    (λ j i. absurd (omega (arith, i, bit_none j))) (bit_none k) (once-then t at) in
     rw c.enter.ensures.counted
     (counting_all c.requires.node 1 (unseen c.completions.ensures (none t (goal.at.returns-in-Lost-clause-once t c).In_default) c.completions-2.ensures c.replies-cut.ensures (omega arith))
     (unknown t (goal.at.returns-in-Lost-clause-once t c).In_default-of_entry) counts (omega arith) (omega arith) (rw c.place-place.ensures at c.enter.ensures.written))
