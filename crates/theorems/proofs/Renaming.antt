@@ -70,7 +70,7 @@ module _ {g h : Rules} {f back : ℕ → ℕ} (e : Exchanges g h f back) where
 -- In a position that is renamed to itself, whoever is to move can force that it wins. If the other could, then so could this one as the
 -- one who is not to move; and to be to move is never a loss.
 pub mover_can_force_lem : {g : Rules} {f back : ℕ → ℕ} → IsLawful g → Exchanges g g f back → MoverCanForce g f
-mover_can_force_lem {g} law e s b p m side = (can, λ k. not_both_forced law can (other s) against p k)
+mover_can_force_lem {g} law e s b p m side = (can, λ k. not_both_forced law can (other s) against p k refl)
   where
     against : Against s (other s)
     against = against_other s side
