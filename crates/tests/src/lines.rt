@@ -1,8 +1,7 @@
 // Lines that ask, read and written; answers as lines; and a board as text.
 use hexboard::{Side, Size};
-use std::fmt::Write;
 use std::test::Fail;
-use text::{Line, read_line, write_board, write_outcome};
+use text::{Drawing, Line, Outcome, read_line};
 use wire::{Answer, Call, NoRefusal, Refusal};
 
 static LINES: [(&[u8], Result<Line, usize>); 18] = [
@@ -85,14 +84,13 @@ fn no_refusals_line(rt: HostRuntime) -> Result<(), Fail> {
 #[test]
 fn draws_a_board(rt: HostRuntime) -> Result<(), Fail> {
     let size = Size::new(3).ok_or_else(|| Fail::new("no board is 3 wide"))?;
-    let mut text = String::new(rt.alloc());
-    write_board(
-        &mut text,
+    let drawing = Drawing {
         size,
-        &[1, 2, 0, 2, 1, 0, 0, 1],
-        &[0, 0, 4, 0, 7, 0],
-    )?;
-    write_outcome(&mut text, Some(Side::One))?;
+        cells: &[1, 2, 0, 2, 1, 0, 0, 1],
+        way: &[0, 0, 4, 0, 7, 0],
+    };
+    let outcome = Outcome(Some(Side::One));
+    let text = format!(in rt.alloc(); "{drawing}{outcome}")?;
     assert!(rt; text.as_str() == "A 2 .\n 2 A .\n  . A .\nside 1 has won");
     Ok(())
 }

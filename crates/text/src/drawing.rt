@@ -1,44 +1,53 @@
-// Writes a board as text, and who has won.
-ghost use Rattle.std.specs.Prelude.{◌≡◌, ℕ, ◌<◌, Bool, List, ◌++◌, Some, string_bytes, OnOk, slice_index};
+// A board as text, and the line that says who has won. Both are written piece by piece, and so without memory of their own.
+ghost use Rattle.std.specs.Prelude.{◌≡◌, ℕ, ◌<◌, Bool, List, ◌++◌, Some, codes, slice_index};
 ghost use Rattle.hexboard.specs.Words.{words};
 ghost use Rattle.text.specs.Boards.{mark, gap, among, spaces, row_cells, board_lines, outcome_line};
 
 use hexboard::{Side, Size, Words};
 use std::fmt;
-use std::fmt::Write;
 
-// Adds the rows of the board, a line each, from the bytes of its cells, one a cell. The cells of the way, two bytes each, low byte
-// first, are marked; the way may be empty. This is no Display of a public type, since callers have the three apart and would only
-// build a value to write it.
-pub fn write_board(out: &mut String, size: Size, cells: &[u8], way: &[u8]) -> fmt::Result
-    ensures { OnOk result (string_bytes out.new ≡ string_bytes out.old ++ board_lines size.n cells.now (words way.now)) }
-{
-    for row in 0..size.width() {
-        let row = Row {
-            size,
-            cells,
-            way,
-            row,
-        };
-        writeln!(out, "{row}")?;
+/// A board, to be written as text: a line for each row, each line with its end.
+#[derive(Clone, Copy)]
+pub struct Drawing<'a> {
+    pub size: Size,
+    /// The bytes of the cells by rows, one a cell: the number of the side whose stone stands there, or 0. A cell whose byte is missing
+    /// is drawn as empty.
+    pub cells: &'a [u8],
+    /// The cells whose stones are marked, two bytes a cell, low byte first. There may be none.
+    pub way: &'a [u8],
+}
+
+impl fmt::Display for Drawing<'_> {
+    ghost output = { λ board. Some (board_lines board.size.n board.cells.now (words board.way.now)) };
+
+    fn fmt<W: fmt::Write>(&self, f: &mut fmt::Formatter<W>) -> fmt::Result {
+        let Drawing { size, cells, way } = *self;
+        for row in 0..size.width() {
+            let row = Row {
+                size,
+                cells,
+                way,
+                row,
+            };
+            writeln!(f, "{row}")?;
+        }
+        Ok(())
     }
-    Ok(())
 }
 
-// Adds the line that says who has won, without its end. This is no Display, since a winner is an Option, a type of std's.
-pub fn write_outcome(out: &mut String, winner: Option<Side>) -> fmt::Result
-    ensures { OnOk result (string_bytes out.new ≡ string_bytes out.old ++ outcome_line winner) }
-{
-    out.write_str(outcome(winner))
-}
+/// Who has won, if anybody has, to be written as a line without its end.
+#[derive(Clone, Copy)]
+pub struct Outcome(pub Option<Side>);
 
-fn outcome(winner: Option<Side>) -> &'static str
-    ensures { result.now ≡ outcome_line winner }
-{
-    match winner {
-        Some(Side::One) => "side 1 has won",
-        Some(Side::Two) => "side 2 has won",
-        None => "nobody has connected",
+impl fmt::Display for Outcome {
+    ghost output = { λ outcome. Some (outcome_line outcome.0) };
+
+    fn fmt<W: fmt::Write>(&self, f: &mut fmt::Formatter<W>) -> fmt::Result {
+        f.write_str(match self.0 {
+            Some(Side::One) => "side 1 has won",
+            Some(Side::Two) => "side 2 has won",
+            None => "nobody has connected",
+        })
     }
 }
 
