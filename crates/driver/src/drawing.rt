@@ -8,7 +8,7 @@ ghost use Rattle.driver.specs.Drawn.{Drawn, Marked};
 use session::Desk;
 use std::fmt;
 use std::fmt::Write;
-use text::{write_board, write_outcome};
+use text::{Drawing, Outcome};
 use wire::{Answer, Call};
 
 // Adds the rows of the board and the line that says who has won, each with its end. This is no Display, since the desk is another
@@ -44,7 +44,12 @@ fn cells_of(answer: Answer<&[u8]>) -> &[u8]
 fn draw(out: &mut String, desk: &Desk, marked: &[u8]) -> fmt::Result
     ensures { OnOk result (Drawn (desk_game desk.now) (words marked.now) (string_bytes out.old) (string_bytes out.new)) }
 {
-    write_board(out, desk.size(), desk.cells(), marked)?;
-    write_outcome(out, desk.winner())?;
-    out.write_str("\n")
+    let drawing = Drawing {
+        size: desk.size(),
+        cells: desk.cells(),
+        way: marked,
+    };
+    let outcome = Outcome(desk.winner());
+    writeln!(out, "{drawing}{outcome}")?;
+    Ok(())
 }

@@ -3,7 +3,7 @@
 
 mod printing;
 
-ghost use Rattle.std.specs.Prelude.{◌≡◌};
+ghost use Rattle.std.specs.Prelude.{◌≡◌, unwrap_or};
 
 use anyhow::anyhow;
 use arguments::{Asked, Flag, Help, read_arguments};
@@ -26,13 +26,13 @@ impl Program {
     fn told(self) -> Help
         ensures about { result.about ≡ self.help }
         ensures largest { result.largest ≡ self.limits.largest }
-        ensures ends { result.ends ≡ self.limits.ends }
+        ensures ends { result.ends ≡ unwrap_or self.limits.ends 0 }
     {
         let Limits { largest, ends } = self.limits;
         Help {
             about: self.help,
             largest,
-            ends,
+            ends: ends.unwrap_or(0),
         }
     }
 }
