@@ -5,12 +5,10 @@ mod bytes;
 mod desk;
 mod lent;
 mod reply;
-mod runs;
 mod serve;
 mod unopened;
 
 pub use desk::Desk;
-pub use lent::{Closed, Parts, call, memory_for, open};
+pub use lent::{Closed, Parts, Sink, call, memory_for, open, play};
 pub use reply::{Reply, with_way};
-pub use runs::{Sink, contracts_suffice, run};
 pub use unopened::Unopened;
