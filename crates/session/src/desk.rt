@@ -1,5 +1,5 @@
 // A desk owns the memory of its games, and lends it to the functions that serve games in lent memory. Once made it never allocates.
-ghost use Rattle.std.specs.Prelude.{◌≡◌, ℕ, ◌+◌, ◌-◌, ◌*◌, ◌<◌, ◌≤◌, ◌++◌, length, take, drop, replicate, IfOk};
+ghost use Rattle.std.specs.Prelude.{◌≡◌, ℕ, ◌+◌, ◌-◌, ◌*◌, ◌%◌, ◌<◌, ◌≤◌, ◌++◌, length, take, drop, replicate, IfOk};
 ghost use Rattle.std.specs.Prelude.{vec_len, vec_capacity};
 ghost use Rattle.hexboard.specs.Board.{empties};
 ghost use Rattle.hexboard.specs.Games as games;
@@ -223,6 +223,7 @@ impl Desk {
     pub fn answer(&self, reply: Reply) -> Answer<&[u8]>
         ensures value { formal.told result ≡ replied reply self.now.way.items }
         ensures bytes { way_bytes result ≡ take (2 * way_cells reply) self.now.way.items }
+        ensures whole { length (way_bytes result) % 2 ≡ 0 }
     {
         with_way(reply, &self.way)
     }

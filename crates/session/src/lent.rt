@@ -48,19 +48,18 @@ pub fn memory_for(size: Size) -> usize
 pub fn open(n: u16, memory: &mut [u8]) -> Result<Parts<'_>, Closed<'_>>
     ensures { MatchResult result (λ p. New n (memory_in p) (length p.scratch.now)) (λ e. (e.memory.now ≡ memory.old) × NotOpened n (length memory.old) e.why) }
 {
-    // A `let .. else`, since the check hands on the size. The refusals hand the memory back.
     let Some(size) = Size::new(n) else {
         return Err(Closed {
             why: Refusal::BadSize,
             memory,
         });
     };
-    if memory.len() < memory_for(size) {
+    let Some(_) = memory.len().checked_sub(memory_for(size)) else {
         return Err(Closed {
             why: Refusal::SmallMemory,
             memory,
         });
-    }
+    };
     let cells = usize::from(size.cells());
     let (stones, rest) = memory.split_at_mut(cells);
     let (log, rest) = rest.split_at_mut(2 * cells);
