@@ -1,3 +1,4 @@
+pub mod Rooms
 pub mod Keeping
 pub mod Asking
 pub mod Showing

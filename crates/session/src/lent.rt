@@ -4,7 +4,8 @@ ghost use Rattle.hexboard.specs.Games as games;
 ghost use Rattle.history.specs.Holds.{formal, Holds};
 ghost use Rattle.session.specs.Serving.{Room};
 ghost use Rattle.session.specs.Calling.{Called};
-ghost use Rattle.session.specs.Lending.{asked, within, memory_in, New, NotOpened};
+ghost use Rattle.session.specs.Lending.{memory_in, New, NotOpened};
+ghost use Rattle.session.specs.Sizes.{asked, within};
 
 use crate::bytes::show;
 use crate::reply::Reply;

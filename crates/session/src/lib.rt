@@ -2,7 +2,6 @@
 #![tactic(auto)]
 
 mod bytes;
-mod calls;
 mod desk;
 mod lent;
 mod reply;
