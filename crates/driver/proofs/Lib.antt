@@ -1,2 +1,5 @@
 mod Answering
+mod Keeping
 mod Outcomes
+mod Running
+mod Tallied

@@ -1,4 +1,7 @@
-pub mod Drawn
-pub mod Leading
+pub mod Lines
 pub mod Served
+pub mod Exchanged
+pub mod Tables
+pub mod Leading
+pub mod Drawn
 pub mod Timed

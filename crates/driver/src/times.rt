@@ -1,14 +1,12 @@
 // How often each kind of line came, and how long serving it took.
 ghost use Rattle.std.specs.Prelude.{◌≡◌, ℕ, ◌-◌, ◌^◌, min, List, ◌++◌, Some, string_bytes, OnOk};
 ghost use Rattle.std.specs.Duration.{as_nanos};
-ghost use Rattle.driver.specs.Served.{trimmed};
-ghost use Rattle.driver.specs.Timed.{no_lines, kind_of_line, name_of, OfKind, capped, one_more, tally_of, noted, tally_line, times_lines};
+ghost use Rattle.driver.specs.Timed.{no_lines, kind_of_line, name_of, capped, one_more, tally_of, noted, tally_line, times_lines};
 
-use crate::lines::without_return;
 use std::fmt;
 use std::fmt::Write;
 use std::time::Duration;
-use text::{Line, read_line};
+use text::Line;
 use wire::Call;
 
 // What a line asks for, without its number.
@@ -72,13 +70,6 @@ pub struct Tally {
 #[derive(Clone, Copy)]
 pub struct Times {
     tallies: [Tally; 5],
-}
-
-// The kind of what the line asks for, or none if it cannot be read. A carriage return at its end is left out.
-pub fn kind_of(line: &[u8]) -> Option<Kind>
-    ensures { OfKind (trimmed line.now) result }
-{
-    read_line(without_return(line)).ok().map(Kind::from)
 }
 
 impl Tally {

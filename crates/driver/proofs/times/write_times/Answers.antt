@@ -3,7 +3,7 @@ use Rattle.std.proofs.lemmas.List.{take_more}
 use Rattle.driver.specs.Timed.{name_of, tally_of, tally_line, all_kinds}
 use Rattle.driver.specs.declared.times.Tally.{Tally}
 use Rattle.driver.specs.declared.times.Kind.TheVariants.{Board}
-use Rattle.driver.proofs.Answering.{lines_more}
+use Rattle.driver.proofs.Tallied.{lines_more}
 use Rattle.driver.proofs.times.write_times.Goals as goal
 
 pub loop-kind-preserved : goal.loop-kind-preserved
