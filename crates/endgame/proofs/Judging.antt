@@ -1,5 +1,5 @@
 -- The answer on a position that stones lead to, from what the search tells of its end.
-use Rattle.std.proofs.Common.{◌≡◌, ℕ, Some, List, length, get_or, sym, ap, ◌∙◌, subst}
+use Rattle.std.proofs.Common.{ℕ, Some, List, length, get_or, sym, ap, ◌∙◌, subst}
 use Rattle.hexboard.specs.Board.{other}
 use Rattle.hexboard.proofs.Boards.{other_side}
 use Rattle.groups.specs.Meaning.{Open}

@@ -1,5 +1,5 @@
 -- That no position is searched twice: what the loop over the moves keeps of what was done, and what it gives at the end.
-use Rattle.std.proofs.Common.{◌≡◌, ◌≢◌, ℕ, suc, ◌+◌, ◌*◌, ◌-◌, ◌^◌, ◌<◌, ◌≤◌, ◌⊎◌, List, ◌++◌, length, refl, sym, ap, ◌∙◌, inl, inr, subst, ⊎_elim, le_trans, pow_mono, arith}
+use Rattle.std.proofs.Common.{◌≡◌, ◌≢◌, ℕ, suc, ◌+◌, ◌*◌, ◌^◌, ◌<◌, ◌≤◌, ◌⊎◌, List, ◌++◌, length, refl, sym, ap, ◌∙◌, inl, inr, subst, ⊎_elim, arith}
 use lib.Count.{ones, ones-le}
 use Rattle.std.proofs.lemmas.Bool.{cases_eq}
 use Rattle.ranking.specs.Sets.{bit, Within}

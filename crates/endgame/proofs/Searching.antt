@@ -15,6 +15,10 @@ use Rattle.endgame.specs.declared.search.Cut.{Cut}
 use Rattle.endgame.specs.declared.search.Found.{Found}
 use Rattle.endgame.specs.declared.search.Found.TheVariants.{Won, Lost}
 use Rattle.endgame.specs.declared.search.Position.{Position}
+use Rattle.endgame.specs.declared.winner.Winner.{Winner}
+use Rattle.endgame.specs.declared.winner.Winner.TheVariants.{Mover, Other}
+use Rattle.endgame.specs.Findings.{found_of}
+use Rattle.endgame.specs.Winners.{entry_of}
 use Rattle.endgame.specs.Floods.{Joins, Completes, Completions}
 use Rattle.endgame.specs.Replies.{Replied}
 use Rattle.endgame.specs.Ends.{Wins, Stands, Node, Describes, Ending, Turn, IsKnown, unknown, won, lost, IsSound, IsTold, Tells, position_after}
@@ -168,5 +172,11 @@ module _ (e : ℕ) (mine theirs : Links) (p : Position) (t : List ℕ) (node : N
   known_loss e (won one wins) = absurd (omega arith)
   known_loss e (lost two stands) = stands
 
-  pub told_lost : entry t (place e p.mine p.theirs) ≡ 2 → Tells e mine theirs p t t (Lost p.free)
-  told_lost is = record { of = λ b es a s end turn apart others sound. (known_loss is (sound s p.mine p.theirs p.free turn node), sound) }
+  known_win : {b : Board} {es : List ℕ} {s v : ℕ} → v ≡ 1 → IsKnown b es s p.mine p.theirs p.free v → Wins b es s p.mine p.free
+  known_win e (unknown z) = absurd (omega arith)
+  known_win e (won one wins) = wins
+  known_win e (lost two stands) = absurd (omega arith)
+
+  pub told_known : (winner : Winner) → entry t (place e p.mine p.theirs) ≡ entry_of winner → Tells e mine theirs p t t (found_of winner p.free)
+  told_known Mover is = record { of = λ b es a s end turn apart others sound. ((known_win is (sound s p.mine p.theirs p.free turn node), tt), sound) }
+  told_known Other is = record { of = λ b es a s end turn apart others sound. (known_loss is (sound s p.mine p.theirs p.free turn node), sound) }

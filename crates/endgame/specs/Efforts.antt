@@ -1,5 +1,5 @@
 -- How much was done. Definitions only.
-use Rattle.std.specs.Prelude.{ℕ, ◌+◌}
+use Rattle.std.specs.Prelude.{◌+◌}
 use Rattle.endgame.specs.declared.search.Effort.{Effort}
 
 -- nothing was done

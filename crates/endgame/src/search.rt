@@ -8,7 +8,7 @@ ghost use Rattle.endgame.specs.Efforts.{nothing_done, one_more_searched};
 ghost use Rattle.endgame.specs.Searches.{entries, moves, Accounts, SearchesOnce};
 ghost use Rattle.endgame.specs.Searched.{TellsWinner};
 ghost use Rattle.endgame.specs.Winners.{entry_of};
-ghost use Rattle.endgame.specs.Findings.{carrier_of, StepsInto, NamesStep};
+ghost use Rattle.endgame.specs.Findings.{carrier_of, StepsInto, NamesStep, TellsKnown};
 ghost use Rattle.endgame.specs.Replies.{Replied};
 ghost use Rattle.endgame.specs.Choices.{WeighsBoth, FirstHeaviest};
 
@@ -45,6 +45,20 @@ impl Position {
 pub enum Found {
     Won { carrier: u64, step: Option<u32> },
     Lost { carrier: u64 },
+}
+
+// What the table tells of the position at a place, if it has an entry: who wins, within all the cells that are free.
+fn known(table: &[u8], place: usize, free: u64) -> Option<Found>
+    requires { place / 4 < length table.now }
+    ensures { TellsKnown (entry table.now place) free result }
+{
+    Some(match Winner::of_entry(get(table, place))? {
+        Winner::Mover => Found::Won {
+            carrier: free,
+            step: None,
+        },
+        Winner::Other => Found::Lost { carrier: free },
+    })
 }
 
 // The cells that must be tried, and those of the threats that show the others to be lost.
@@ -199,14 +213,8 @@ impl Search {
             return Found::Lost { carrier: cut.lost };
         }
         let place = self.ranking.place(at.mine, at.theirs);
-        if let Some(winner) = Winner::of_entry(get(table, place)) {
-            return match winner {
-                Winner::Mover => Found::Won {
-                    carrier: at.free,
-                    step: None,
-                },
-                Winner::Other => Found::Lost { carrier: at.free },
-            };
+        if let Some(found) = known(table, place, at.free) {
+            return found;
         }
         let mut must = cut.must;
         let mut lost = cut.lost;

@@ -143,10 +143,10 @@ stones_there e x y zero h l = omega arith
 stones_there e x y (suc m) h l = ⊎_elim
     (λ same. let begun : start e (suc m) ≤ place e x y = rw same at (place_from e x y) in grind (arith, nat_tests, begun))
     (λ apart.
-        let more : suc (stones x y) + (m - stones x y) ≡ suc m = omega arith in
-        let later : place e x y < start e (suc m) = omega (arith, place_next e x y h, rw more at (start_more e (suc (stones x y)) (m - stones x y))) in
-        let before = stones_there e x y m h (omega arith) in
-        grind (arith, nat_tests, later, before))
+    let more : suc (stones x y) + (m - stones x y) ≡ suc m = omega arith in
+    let later : place e x y < start e (suc m) = omega (arith, place_next e x y h, rw more at (start_more e (suc (stones x y)) (m - stones x y))) in
+    let before = stones_there e x y m h (omega arith) in
+    grind (arith, nat_tests, later, before))
     (cases_eq (stones x y) (suc m))
 
 pub free_there : (e x y : ℕ) → Position e x y → free_at e (place e x y) + stones x y ≡ e

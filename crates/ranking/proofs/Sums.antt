@@ -1,5 +1,5 @@
 -- Sums over the places of a table that have an entry.
-use Rattle.std.proofs.Common.{◌≡◌, ℕ, zero, suc, ◌+◌, ◌*◌, ◌<◌, ◌≤◌, ◌≢◌, List, refl, sym, ap, ◌∙◌, ⊎_elim, eqb, arith, mul-add}
+use Rattle.std.proofs.Common.{◌≡◌, ℕ, zero, suc, ◌+◌, ◌*◌, ◌<◌, ◌≤◌, ◌≢◌, List, refl, sym, ap, ◌∙◌, ⊎_elim, arith, mul-add}
 use Rattle.std.proofs.lemmas.Bool.{cases_eq, eq-eqb, ne_eqb}
 use Rattle.ranking.specs.Table.{entry, Put, sum_over_entries}
 
@@ -21,9 +21,9 @@ unfolding sum_over_entries
 sum_put f t u zero i v h l none some = absurd (omega arith)
 sum_put f t u (suc m) i v h l none some = ⊎_elim
     (λ same.
-        let was : entry t m ≡ 0 = ap (entry t) (sym same) ∙ none in
-        let is : entry u m ≢ 0 = λ e. some (sym h.there ∙ ap (entry u) same ∙ e) in
-        rw (was, ne_eqb (entry u m) 0 is) (omega (arith, ap f same, sum_same f t u m (λ j k. h.others j (λ e. omega arith)))))
+    let was : entry t m ≡ 0 = ap (entry t) (sym same) ∙ none in
+    let is : entry u m ≢ 0 = λ e. some (sym h.there ∙ ap (entry u) same ∙ e) in
+    rw (was, ne_eqb (entry u m) 0 is) (omega (arith, ap f same, sum_same f t u m (λ j k. h.others j (λ e. omega arith)))))
     (λ apart. rw (h.others m (λ e. apart (sym e))) (omega (arith, sum_put f t u m i v h (omega arith) none some)))
     (cases_eq i m)
 

@@ -8,14 +8,13 @@ use Rattle.ranking.proofs.Members.{members_rest, members_empty}
 use Rattle.ranking.proofs.Ranks.{place_below}
 use Rattle.endgame.specs.Ends.{Tells, connects, threatened, position_after}
 use Rattle.endgame.specs.Searches.{SearchesOnce}
-use Rattle.endgame.specs.Winners.{entry_of}
 use Rattle.endgame.specs.declared.search.Found.{Found}
 use Rattle.endgame.proofs.Nodes.{node_after}
-use Rattle.endgame.proofs.Searching.{Searching, searching_none, searching_cut, searching_won, searching_lost, searching_all, won_within, told_at_once, told_lost}
+use Rattle.endgame.proofs.Searching.{Searching, searching_none, searching_cut, searching_won, searching_lost, searching_all, won_within, told_at_once, told_known}
 use Rattle.endgame.proofs.Once.{unseen, counting_none, counting_accounts, counting_more, counting_all, once_looked, searched_small, looks_small}
 use Rattle.endgame.proofs.Threats.{one_within}
 use Rattle.endgame.proofs.search.Search.+solve.Goals as goal
-use Rattle.endgame.proofs.search.Search.+solve.Goals.{In-Some, In_default, In_default-of_entry, After-best-step, After-solve}
+use Rattle.endgame.proofs.search.Search.+solve.Goals.{In-Some, In_default, In_default-known, After-best-step, After-solve}
 
 -- a cell that connects at once is the first of those
 first : (t : ℕ) (c : In-Some t) → (bit c.in-Some.step c.completions.result ≡ 1) × (c.in-Some.step < 64)
@@ -26,11 +25,10 @@ none : (t : ℕ) (c : In_default t) → c.completions.result ≡ 0
 none t c = members_empty c.completions.result (omega arith) (sym c.of.ensures ∙ c.in_default.ensures.steps.0)
 
 -- the position has no entry
-unknown : (t : ℕ) (c : In_default-of_entry t) → entry c.args.table.now (place c.args.self.now.ranking.cells c.args.at.mine c.args.at.theirs) ≡ 0
+unknown : (t : ℕ) (c : In_default-known t) → entry c.args.table.now (place c.args.self.now.ranking.cells c.args.at.mine c.args.at.theirs) ≡ 0
 unknown t c =
-    let here = place c.args.self.now.ranking.cells c.args.at.mine c.args.at.theirs in
-    let is : c.get.result ≡ entry c.args.table.now here = rw c.place-place.ensures at c.get.ensures in
-    omega (arith, is, c.in_default-of_entry.ensures, c.requires.accounts.readable here)
+    let none = rw c.place-place.ensures at c.in_default-known.ensures in
+    omega (arith, none, c.requires.accounts.readable (place c.args.self.now.ranking.cells c.args.at.mine c.args.at.theirs))
 
 -- nothing is counted past what fits
 pub overflow_add-self : goal.overflow_add-self
@@ -71,13 +69,16 @@ returns-then-cut-eq0-clause-tells t c =
 pub returns-then-cut-eq0-clause-kept : goal.returns-then-cut-eq0-clause-kept
 returns-then-cut-eq0-clause-kept t c = inl (threatened c.completions-2.result c.replies-cut.result c.completions-2.ensures c.replies-cut.ensures c.if-cut-eq0.true)
 
-pub get-requires : goal.get-requires
-get-requires t c =
+pub known-requires : goal.known-requires
+known-requires t c =
     omega (arith, c.place-place.ensures, place_below c.args.self.now.ranking.cells c.args.at.mine c.args.at.theirs c.requires.node.position)
 
-pub returns-in-Other-clause-tells : goal.returns-in-Other-clause-tells
-returns-in-Other-clause-tells t c = told_lost c.args.self.now.ranking.cells c.args.mine.now c.args.theirs.now c.args.at c.args.table.now c.requires.node
-    (sym (rw c.place-place.ensures at c.get.ensures) ∙ c.in-Some-of_entry.ensures ∙ ap entry_of c.in-Other.is)
+-- what the table knows
+pub returns-in-Some-known-clause-tells : goal.returns-in-Some-known-clause-tells
+returns-in-Some-known-clause-tells t c =
+    let (winner, is, found) = c.in-Some-known.ensures in
+    subst (Tells c.args.self.now.ranking.cells c.args.mine.now c.args.theirs.now c.args.at c.args.table.now c.args.table.now) (sym found)
+    (told_known c.args.self.now.ranking.cells c.args.mine.now c.args.theirs.now c.args.at c.args.table.now c.requires.node winner (rw c.place-place.ensures at is))
 
 pub loop-must-init : goal.loop-must-init
 loop-must-init t c = record {
@@ -196,7 +197,7 @@ returns-in-Lost-clause-once t c =
     (λ j i. absurd (omega (arith, i, bit_none j))) (bit_none k) (once-then t at) in
     rw c.enter.ensures.counted
     (counting_all c.requires.node 1 (unseen c.completions.ensures (none t (goal.at.returns-in-Lost-clause-once t c).In_default) c.completions-2.ensures c.replies-cut.ensures (omega arith))
-    (unknown t (goal.at.returns-in-Lost-clause-once t c).In_default-of_entry) counts (omega arith) (omega arith) (rw c.place-place.ensures at c.enter.ensures.written))
+    (unknown t (goal.at.returns-in-Lost-clause-once t c).In_default-known) counts (omega arith) (omega arith) (rw c.place-place.ensures at c.enter.ensures.written))
 
 pub returns-in-Lost-clause-same : goal.returns-in-Lost-clause-same
 returns-in-Lost-clause-same t c = ap (λ s. s.ranking) c.enter.ensures.counted ∙ same-then t (goal.at.returns-in-Lost-clause-same t c).After-solve
@@ -219,7 +220,7 @@ pub returns-clause-once : goal.returns-clause-once
 returns-clause-once t c =
     rw c.enter-2.ensures.counted
     (counting_all c.requires.node 2 (unseen c.completions.ensures (none t (goal.at.returns-clause-once t c).In_default) c.completions-2.ensures c.replies-cut.ensures (omega arith))
-    (unknown t (goal.at.returns-clause-once t c).In_default-of_entry) c.loop-must.invariant.counts (omega arith) (omega arith) (rw c.place-place.ensures at c.enter-2.ensures.written))
+    (unknown t (goal.at.returns-clause-once t c).In_default-known) c.loop-must.invariant.counts (omega arith) (omega arith) (rw c.place-place.ensures at c.enter-2.ensures.written))
 
 pub returns-clause-same : goal.returns-clause-same
 returns-clause-same t c = ap (λ s. s.ranking) c.enter-2.ensures.counted ∙ c.loop-must.invariant.same
@@ -229,9 +230,3 @@ returns-in-Some-clause-once t c = once_looked c.requires.accounts
 
 pub returns-then-cut-eq0-clause-once : goal.returns-then-cut-eq0-clause-once
 returns-then-cut-eq0-clause-once t c = once_looked c.requires.accounts
-
-pub returns-in-Mover-clause-once : goal.returns-in-Mover-clause-once
-returns-in-Mover-clause-once t c = once_looked c.requires.accounts
-
-pub returns-in-Other-clause-once : goal.returns-in-Other-clause-once
-returns-in-Other-clause-once t c = once_looked c.requires.accounts
