@@ -1,6 +1,9 @@
 pub mod Numbers
 pub mod Stones
 pub mod Ways
+pub mod Leading
+pub mod Rhombi
+pub mod BoardWays
 pub mod Crossing
 pub mod NeverBoth
 pub mod MustEnd
