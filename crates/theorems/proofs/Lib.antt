@@ -13,6 +13,7 @@ pub mod NeverNeither
 pub mod Advantage
 pub mod Outcome
 pub mod Renaming
+pub mod Turning
 pub mod Squares
 pub mod Better
 pub mod Mirror

@@ -13,7 +13,7 @@ use Rattle.theorems.proofs.Leading.{LeadsOn, IsLed, on_from, row_from}
 use Rattle.theorems.proofs.Rhombi.{board_track, stone_from}
 use Rattle.theorems.proofs.BoardWays.{to_board}
 use Rattle.theorems.proofs.Cells.{Cell, Near, along}
-use Rattle.theorems.proofs.Line.{On, Led, first, more, OnBoard, Across, one_connects}
+use Rattle.theorems.proofs.Line.{On, Led, first, more, led_end, OnBoard, Across, one_connects}
 
 -- the side that the line calls `true`, and the other
 abbrev pub side : Bool → ℕ
@@ -62,11 +62,6 @@ module _ (w t : ℕ) (cells : List ℕ) (long : length cells ≡ w * t) (stones 
       stone_from (side s) cells i h
       (of_side s (get_or cells i 0) (All-get_or (λ c. c < 3) cells i 0 h stones) (λ z. omega (arith, empty_counts cells i h z)) on.mine)
 
-  -- What is led to is a cell of the board.
-  end_on : (s : Bool) {p : Cell} → Led (OnBoard w t) (colour w cells) s p → On (OnBoard w t) (colour w cells) s p
-  end_on s (first on _) = on
-  end_on s (more _ _ on) = on
-
   -- The first row and column of the line are the first borders, the last ones the last.
   at_start : (s : Bool) (p : Cell) → On (OnBoard w t) (colour w cells) s p → along s p ≡ 1 → starts w (side s) (number w p) ≡ true
   at_start s p on e =
@@ -86,7 +81,7 @@ module _ (w t : ℕ) (cells : List ℕ) (long : length cells ≡ w * t) (stones 
   led_way s (first {p} on e) js go =
       (number w p ∷ js, row_from (board_track w t (side s) cells) (number w p) js (at_start s p on e) (stone s p on) go)
   led_way s (more {p} {q} led near on) js go =
-      let o = end_on s led in
+      let o = led_end (OnBoard w t) (colour w cells) s led in
       led_way s led (number w q ∷ js)
       (on_from (board_track w t (side s) cells) (number w p) (number w q) js
       (touch w p q o.top on.top o.left on.left o.inside.1 on.inside.1 near) (stone s q on) go)
@@ -94,7 +89,7 @@ module _ (w t : ℕ) (cells : List ℕ) (long : length cells ≡ w * t) (stones 
   -- A row of cells to the last border is a way.
   pub across_way : (s : Bool) → Across w t (colour w cells) s → IsLed (board_track w t (side s) cells)
   unfolding leads_on
-  across_way s (p, led, e) = led_way s led [] (at_finish s p (end_on s led) e)
+  across_way s (p, led, e) = led_way s led [] (at_finish s p (led_end (OnBoard w t) (colour w cells) s led) e)
 
   -- Never neither: the line between the two sides' cells ends at the last border of one of them.
   pub one_leads : 0 < w → 0 < t → IsLed (board_track w t 1 cells) ⊎ IsLed (board_track w t 2 cells)
