@@ -2,6 +2,7 @@ pub mod Board
 pub mod Games
 pub mod Promise
 pub mod Laying
+pub mod Shapes
 pub mod Geometry
 pub mod Rows
 pub mod Sides

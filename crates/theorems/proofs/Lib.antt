@@ -1,6 +1,9 @@
 pub mod Numbers
 pub mod Stones
 pub mod Ways
+pub mod Leading
+pub mod Rhombi
+pub mod BoardWays
 pub mod Crossing
 pub mod NeverBoth
 pub mod MustEnd
@@ -10,6 +13,7 @@ pub mod NeverNeither
 pub mod Advantage
 pub mod Outcome
 pub mod Renaming
+pub mod Turning
 pub mod Squares
 pub mod Better
 pub mod Mirror

@@ -33,6 +33,11 @@ module _ (In : Cell → Type 0) (colour : Cell → Bool) where
     first : {p : Cell} → On s p → along s p ≡ 1 → Led s p
     more : {p q : Cell} → Led s p → Near p q → On s q → Led s q
 
+  -- What is led to is a cell of the region, and one's own.
+  pub led_end : (s : Bool) {p : Cell} → Led s p → On s p
+  led_end s (first on _) = on
+  led_end s (more _ _ on) = on
+
   -- the sides of the region's cells and of the ring's
   pub ringed : Cell → Bool
   ringed p = cond (eqb p.row 0) true (cond (eqb p.column 0) false (colour p))
