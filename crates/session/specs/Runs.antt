@@ -13,7 +13,8 @@ use Rattle.session.specs.Short.{Short}
 -- the rows before it left. A way that is shown is a shortest. Too many is said only with more than 16 empty cells.
 pub data Runs : games.Game → List (List ℕ) → List games.Answer → games.Game → Type 0 where
   none : {g : games.Game} → Runs g [] [] g
-  one : {g h k : games.Game} {bytes : List ℕ} {a : games.Answer} {rows : List (List ℕ)} {answers : List games.Answer} →
+  one : {g h k : games.Game} {bytes : List ℕ} {a : games.Answer}
+      {rows : List (List ℕ)} {answers : List games.Answer} →
       RightBytes g bytes a h → Short g.board a → (a ≡ games.too_many → 16 < empties g.board.cells) →
       Runs h rows answers k → Runs g (bytes ∷ rows) (a ∷ answers) k
 
@@ -32,12 +33,13 @@ asking games.can_force = call_bytes CanForce
 -- A desk of the rules whose answers have these bytes, to the calls that these rows ask on a new board n wide, answers all of them right.
 abbrev pub DesksAreRight : ℕ → List (List ℕ) → List (List ℕ) → Type 0
 DesksAreRight n rows told =
-    (d : promise.Desk) (cs : List games.Call) → map asking cs ≡ rows → map shown (says_all d (d.opened n) cs) ≡ told →
-    promise.AllRight d (d.opened n) (games.new_game n) cs
+    (d : promise.Desk) (cs : List games.Call) → map asking cs ≡ rows →
+    map shown (says_all d (d.opened n) cs) ≡ told → promise.AllRight d (d.opened n) (games.new_game n) cs
 
 -- From game g the rows were answered, one by one, to game h, and a listener that agreed with the answers before agrees with these
 -- answers' bytes behind them.
-pub record Hears (g : games.Game) (rows : List (List ℕ)) (h : games.Game) (before after : List (List ℕ) → Type 0) : Type 0 where
+pub record Hears (g : games.Game) (rows : List (List ℕ)) (h : games.Game)
+    (before after : List (List ℕ) → Type 0) : Type 0 where
   pub answers : List games.Answer
   pub runs : Runs g rows answers h
   pub heard : (earlier : List (List ℕ)) → before earlier → after (earlier ++ map shown answers)

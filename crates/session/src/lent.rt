@@ -16,8 +16,8 @@ use history::Game;
 use thiserror::Error;
 use wire::Refusal;
 
-// The parts of the lent memory, one behind the other: a byte for each stone; two for each move; two for each cell's parent in its group,
-// and one for the borders of its group; and scratch for the searches.
+/// The parts of the lent memory, one behind the other: a byte for each stone; two for each move; two for each cell's parent in its
+/// group, and one for the borders of its group; and scratch for the searches.
 #[derive(Drop)]
 pub struct Parts<'a> {
     pub stones: &'a mut [u8],
@@ -27,7 +27,7 @@ pub struct Parts<'a> {
     pub scratch: &'a mut [u8],
 }
 
-// Why a game was not opened, and the memory, which is as it was.
+/// Why a game was not opened, and the memory, which is as it was.
 #[derive(Debug, Drop, Error)]
 #[error("{why}")]
 pub struct Closed<'a> {
@@ -35,7 +35,7 @@ pub struct Closed<'a> {
     pub memory: &'a mut [u8],
 }
 
-// How many bytes a game on a board of this size asks for.
+/// How many bytes a game on a board of this size asks for.
 pub fn memory_for(size: Size) -> usize
     ensures value { result ≡ asked size.n }
     ensures bound { result ≤ within size.n }
@@ -43,10 +43,12 @@ pub fn memory_for(size: Size) -> usize
     6 * usize::from(size.cells()) + endgame::table_bytes(size)
 }
 
-// A new game on a board n wide and n tall, n from 1 to 19, in memory that holds anything. The parts hold it, and `Game::new` gives it
-// by value.
+/// A new game on a board n wide and n tall, n from 1 to 19, in memory that holds anything. The parts hold it, and `Game::new` gives
+/// it by value.
 pub fn open(n: u16, memory: &mut [u8]) -> Result<Parts<'_>, Closed<'_>>
-    ensures { MatchResult result (λ p. New n (memory_in p) (length p.scratch.now)) (λ e. (e.memory.now ≡ memory.old) × NotOpened n (length memory.old) e.why) }
+    ensures { MatchResult result
+        (λ p. New n (memory_in p) (length p.scratch.now))
+        (λ e. (e.memory.now ≡ memory.old) × NotOpened n (length memory.old) e.why) }
 {
     let Some(size) = Size::new(n) else {
         return Err(Closed {
@@ -75,9 +77,9 @@ pub fn open(n: u16, memory: &mut [u8]) -> Result<Parts<'_>, Closed<'_>>
     })
 }
 
-// Takes a call by the rules or turns it away, and writes the answer's bytes to the front of `answer`: how many they are. None if
-// `answer` has no room for every answer, two bytes for each cell of the board and 8 more; then nothing changes. The parts come and go
-// by value, and are taken apart for `serve`: behind a `&mut` two of them could not be lent in one call.
+/// Takes a call by the rules or turns it away, and writes the answer's bytes to the front of `answer`: how many they are. None if
+/// `answer` has no room for every answer, two bytes for each cell of the board and 8 more; then nothing changes.
+// The parts come and go by value: behind a `&mut` two of them could not be lent in one call.
 pub fn call<'a>(
     game: Game,
     parts: Parts<'a>,
@@ -95,7 +97,6 @@ pub fn call<'a>(
     if answer.len() < 2 * cells + 8 {
         return (game, parts, None);
     }
-    // A `match`, and no `let .. else`: the refusal says why.
     let call = match wire::read_call(bytes) {
         Ok(call) => call,
         Err(why) => {
@@ -169,7 +170,8 @@ pub fn play<'a, S: Sink>(
 ) -> Result<(), Closed<'a>>
     ensures { MatchResult result
         (λ _. Plays n (rows_of calls.now) (S.Sink.heard sink.old) (S.Sink.heard sink.new))
-        (λ e. (e.memory.now ≡ memory.old) × NotOpened n (length memory.old) e.why × (sink.new ≡ sink.old)) }
+        (λ e. (e.memory.now ≡ memory.old) × NotOpened n (length memory.old) e.why
+        × (sink.new ≡ sink.old)) }
 {
     let parts = open(n, memory)?;
     let size = Size::new(n).unwrap();

@@ -5,8 +5,8 @@ ghost use Rattle.session.specs.Replies.{replied, way_cells, way_bytes};
 
 use wire::Answer;
 
-// An answer that tells how many cells its way has, if it has one. The cells stand in bytes that were lent for them, two a cell, low
-// byte first.
+/// An answer that tells how many cells its way has, if it has one. The cells stand in bytes that were lent for them, two a cell, low
+/// byte first.
 pub type Reply = Answer<u16>;
 
 // The answer that a reply is, with the way that stands at the front of these bytes.
