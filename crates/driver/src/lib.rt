@@ -20,5 +20,5 @@ pub use position::Position;
 pub use printing::{Answers, Refusals};
 pub use serve::serve_lines;
 pub use table::Table;
-pub use times::{Kind, Tally, Times, write_times};
+pub use times::{Kind, Tally, Times};
 pub use told::{Served, Told};

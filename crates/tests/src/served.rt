@@ -1,5 +1,5 @@
 // Lines served within the limits of a program, and what its arguments ask for.
-use arguments::{Asked, Flag, Help, read_arguments};
+use arguments::{Asked, Flag, read_arguments};
 use driver::{Limits, Served, answer_line};
 use std::test::Fail;
 
@@ -40,7 +40,7 @@ fn lines_within_limits(rt: HostRuntime) -> Result<(), Fail> {
     Ok(())
 }
 
-// A program that looks through no ends does not know the question, and says so in its help.
+// A program that looks through no ends does not know the question.
 #[test]
 fn no_ends(rt: HostRuntime) -> Result<(), Fail> {
     let heap = rt.alloc();
@@ -55,14 +55,6 @@ fn no_ends(rt: HostRuntime) -> Result<(), Fail> {
         let _ = answer_line(heap, limits, &mut desk, line.as_bytes(), &mut out)?;
     }
     assert!(rt; out.as_str() == "refused 1 at 0");
-    let help = Help {
-        about: "",
-        largest: 3,
-        ends: None,
-    };
-    let told = format!(in heap; "{help}")?;
-    let end = "Limits: boards from 1 by 1 to 3 by 3; no can force.\n";
-    assert!(rt; told.as_str().ends_with(end));
     Ok(())
 }
 

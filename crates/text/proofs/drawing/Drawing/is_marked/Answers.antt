@@ -3,7 +3,7 @@ use Rattle.std.proofs.lemmas.Iterator.Consumers.{YieldsList-from_first}
 use Rattle.std.proofs.lemmas.Iterator.Search.{any_from_yields_List}
 use Rattle.hexboard.specs.Words.{words}
 use Rattle.text.proofs.Marked.{among_any}
-use Rattle.text.proofs.drawing.Row.is_marked.Goals as goal
+use Rattle.text.proofs.drawing.Drawing.is_marked.Goals as goal
 
 pub returns : goal.returns
 returns c =
