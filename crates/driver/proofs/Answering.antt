@@ -13,7 +13,7 @@ use Rattle.text.specs.Places.{Stops}
 use Rattle.text.specs.declared.reading.Line.{Line}
 use Rattle.text.specs.declared.reading.Line.TheVariants as line
 use Rattle.driver.specs.Drawn.{IsShortestWay}
-use Rattle.driver.specs.Served.{Begins, IsRead, IsServedSize, IsBeyond, Serves, answer}
+use Rattle.driver.specs.Served.{ReadableTo, IsRead, IsServedSize, IsBeyond, Serves, answer}
 use Rattle.driver.specs.declared.limits.Limits.{Limits}
 use Rattle.driver.specs.declared.line.TheConstants.{LONGEST_LINE}
 use Rattle.driver.proofs.Outcomes.{who_keeps}
@@ -23,16 +23,16 @@ pub kept_is : (n : ℕ) (bytes : List ℕ) → take (min (length bytes) n) bytes
 kept_is n bytes = let least : min (length bytes) n ≡ min n (length bytes) = omega arith in ap (λ k. take k bytes) least ∙ take_min n bytes
 
 -- a beginning that can be read goes on with nothing
-pub begins_all : (n : ℕ) (bytes : List ℕ) (l : Line) → n < length bytes → Asks (take n bytes) l → Begins (take n bytes) n
-begins_all n bytes l long asks =
+pub readable_to_all : (n : ℕ) (bytes : List ℕ) (l : Line) → n < length bytes → Asks (take n bytes) l → ReadableTo (take n bytes) n
+readable_to_all n bytes l long asks =
     let count : length (take n bytes) ≡ n = omega (arith, length-take n bytes) in record {
       within = omega (arith, count);
       begins = ([], (l, subst (λ b. Asks b l) (sym (append-nil (take n (take n bytes)) ∙ take-take n n bytes (omega arith))) asks));
-      no_further = λ q more within rest reads. absurd (omega (arith, more, within, count));
+      longest = λ q more within reads. absurd (omega (arith, more, within, count));
     }
 
-pub begins_some : (bytes : List ℕ) (p : ℕ) → Stops Readable bytes p → Begins bytes p
-begins_some bytes p stops = record { within = stops.within; begins = stops.begins; no_further = stops.no_further }
+pub readable_to_stop : (bytes : List ℕ) (p : ℕ) → Stops Readable bytes p → ReadableTo bytes p
+readable_to_stop bytes p stops = record { within = stops.within; begins = stops.begins; longest = stops.longest }
 
 -- what can be read, but not its beginning, is longer
 pub too_long : (n : ℕ) (bytes : List ℕ) (p : ℕ) → Stops Readable (take n bytes) p → Readable bytes → n < length bytes
@@ -53,7 +53,7 @@ is_read_kept bytes kept (Err p) is (long, begins) =
           let all : kept ≡ bytes = is ∙ take_all (LONGEST_LINE + 1) bytes (omega (arith, short)) in
           absurd (omega (arith, long (subst Readable (sym all) reads), count, short)))
           (cases_lt LONGEST_LINE (length bytes)),
-      subst (λ b. Begins b p) (ap (take LONGEST_LINE) is ∙ take-take LONGEST_LINE (LONGEST_LINE + 1) bytes (omega arith)) begins,
+      subst (λ b. ReadableTo b p) (ap (take LONGEST_LINE) is ∙ take-take LONGEST_LINE (LONGEST_LINE + 1) bytes (omega arith)) begins,
     )
 
 -- a size that is refused is none that the program serves

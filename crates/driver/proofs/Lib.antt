@@ -3,3 +3,4 @@ mod Keeping
 mod Outcomes
 mod Running
 mod Tallied
+mod Writing

@@ -5,7 +5,5 @@ use Rattle.std.specs.List.{flat_map}
 use Rattle.driver.specs.declared.times.Kind.{Kind}
 
 -- the lines of some kinds, and that of one more
-pub lines_more : (f : Kind → List ℕ) (before now' after : List ℕ) (ks : List Kind) (i : ℕ) (k : Kind) → take (i + 1) ks ≡ take i ks ++ k ∷ [] →
-    now' ≡ before ++ flat_map f (take i ks) → after ≡ now' ++ f k → after ≡ before ++ flat_map f (take (i + 1) ks)
-lines_more f before now' after ks i k more was is =
-    is ∙ (ap (λ (xs : List ℕ). xs ++ f k) was ∙ (flat_map_more f before (take i ks) k ∙ ap (λ (js : List Kind). before ++ flat_map f js) (sym more)))
+pub lines_more : (f : Kind → List ℕ) (ks : List Kind) (i : ℕ) (k : Kind) → take (i + 1) ks ≡ take i ks ++ k ∷ [] → flat_map f (take i ks) ++ f k ≡ flat_map f (take (i + 1) ks)
+lines_more f ks i k more = flat_map_more f [] (take i ks) k ∙ ap (flat_map f) (sym more)

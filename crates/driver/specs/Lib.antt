@@ -4,4 +4,5 @@ pub mod Exchanged
 pub mod Tables
 pub mod Leading
 pub mod Drawn
+pub mod Printed
 pub mod Timed

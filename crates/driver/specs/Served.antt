@@ -10,21 +10,22 @@ use Rattle.wire.specs.declared.call.Call.{Call}
 use Rattle.wire.specs.declared.call.Call.TheVariants.{Move, Back, Who, CanForce}
 use Rattle.session.specs.Short.{Short}
 use Rattle.text.specs.Lines.{Asks, Readable, asked_by}
+use Rattle.text.specs.Places.{Begins}
 use Rattle.text.specs.declared.reading.Line.{Line}
 use Rattle.text.specs.declared.reading.Line.TheVariants as line
 use Rattle.driver.specs.declared.limits.Limits.{Limits}
 use Rattle.driver.specs.declared.line.TheConstants.{LONGEST_LINE}
 
 -- p is the length of the longest beginning of bytes that is the beginning of a line that can be read
-pub record Begins (bytes : List ℕ) (p : ℕ) : Type 0 where
+pub record ReadableTo (bytes : List ℕ) (p : ℕ) : Type 0 where
   pub within : p ≤ length bytes
-  pub begins : (rest : List ℕ) × Readable (take p bytes ++ rest)
-  pub no_further : (q : ℕ) → p < q → q ≤ length bytes → (rest : List ℕ) → Readable (take q bytes ++ rest) → ⊥
+  pub begins : Begins Readable (take p bytes)
+  pub longest : (q : ℕ) → p < q → q ≤ length bytes → Begins Readable (take q bytes) → ⊥
 
 -- What a line asks for, if it can be read and is not too long. Else the place of its first byte that does not fit, or of the first that is too much.
 abbrev pub IsRead : List ℕ → Result Line ℕ → Type 0
 IsRead bytes (Ok l) = (length bytes ≤ LONGEST_LINE) × Asks bytes l
-IsRead bytes (Err p) = (Readable bytes → LONGEST_LINE < length bytes) × Begins (take LONGEST_LINE bytes) p
+IsRead bytes (Err p) = (Readable bytes → LONGEST_LINE < length bytes) × ReadableTo (take LONGEST_LINE bytes) p
 
 -- what a line is answered by: that a board is open, or an answer of the rules
 pub data Reply : Type 0 where

@@ -4,7 +4,6 @@ ghost use Rattle.std.specs.Duration.{as_nanos};
 ghost use Rattle.driver.specs.Timed.{no_lines, kind_of_line, name_of, capped, one_more, tally_of, noted, tally_line, times_lines};
 
 use std::fmt;
-use std::fmt::Write;
 use std::time::Duration;
 use text::Line;
 use wire::Call;
@@ -123,32 +122,43 @@ fn nanos_of(span: Duration) -> u64
     u64::try_from(span.as_nanos()).unwrap_or(u64::MAX)
 }
 
-// Adds a line, with its end, for each kind of which a line came. A Display of the times would want one more type, for a kind with its
-// tally, to write a line by.
-pub fn write_times(out: &mut String, times: Times) -> fmt::Result
-    ensures { OnOk result (string_bytes out.new ≡ string_bytes out.old ++ times_lines times) }
-{
-    for kind in Kind::ALL {
-        write_tally(out, kind, times.of(kind))?;
+/// A line, with its end, for each kind of which a line came.
+impl fmt::Display for Times {
+    ghost output = { λ times. Some (times_lines times) };
+
+    fn fmt<W: fmt::Write>(&self, f: &mut fmt::Formatter<W>) -> fmt::Result {
+        for kind in Kind::ALL {
+            let tally = self.of(kind);
+            let line = TallyLine { kind, tally };
+            write!(f, "{line}")?;
+        }
+        Ok(())
     }
-    Ok(())
 }
 
-// Adds the line of a kind.
-fn write_tally(out: &mut String, kind: Kind, tally: Tally) -> fmt::Result
-    ensures { OnOk result (string_bytes out.new ≡ string_bytes out.old ++ tally_line (name_of kind) tally) }
-{
-    let Tally {
-        count,
-        total,
-        longest,
-    } = tally;
-    if count == 0 {
-        return Ok(());
+// The line of a kind, or nothing if no such line came.
+#[derive(Clone, Copy)]
+struct TallyLine {
+    kind: Kind,
+    tally: Tally,
+}
+
+impl fmt::Display for TallyLine {
+    ghost output = { λ line. Some (tally_line (name_of line.kind) line.tally) };
+
+    fn fmt<W: fmt::Write>(&self, f: &mut fmt::Formatter<W>) -> fmt::Result {
+        let kind = self.kind;
+        let Tally {
+            count,
+            total,
+            longest,
+        } = self.tally;
+        if count == 0 {
+            return Ok(());
+        }
+        writeln!(
+            f,
+            "{kind}: {count} calls, {total} ns in all, longest {longest} ns"
+        )
     }
-    writeln!(
-        out,
-        "{kind}: {count} calls, {total} ns in all, longest {longest} ns"
-    )?;
-    Ok(())
 }

@@ -1,8 +1,8 @@
 // What lines are answered by, as values.
-ghost use Rattle.std.specs.Prelude.{◌↔◌, IsTrue, Some};
+ghost use Rattle.std.specs.Prelude.{ℕ, ◌↔◌, List, IsTrue, Some};
 ghost use Rattle.driver.specs.Served.{reply_line};
 ghost use Rattle.driver.specs.Leading.{IsRefusal, LeadsOn};
-ghost use Rattle.driver.specs.Tables.{reply_of};
+ghost use Rattle.driver.specs.Tables.{reply_in, reply_of};
 
 use std::fmt;
 use text::Line;
@@ -38,14 +38,14 @@ pub struct Served<W> {
 impl Served<u16> {
     /// Whether the line was refused, and so changed nothing.
     pub fn is_refused(self) -> bool
-        ensures { IsTrue result ↔ IsRefusal self.told }
+        ensures { (way : List ℕ) → (IsTrue result ↔ IsRefusal (reply_in way self.told)) }
     {
         matches!(self.told, Told::Answer(Answer::Refused(_)))
     }
 
     /// Whether the line opened a board or changed the one there was.
     pub fn leads_on(self) -> bool
-        ensures { IsTrue result ↔ LeadsOn self }
+        ensures { (way : List ℕ) → (IsTrue result ↔ LeadsOn self.asked (reply_in way self.told)) }
     {
         match self.asked {
             Ok(Line::Board(_) | Line::Call(Call::Move(_) | Call::Back)) => !self.is_refused(),
