@@ -1,4 +1,6 @@
 pub mod Forcing
+pub mod Pairs
 pub mod Search
+pub mod Shorter
 pub mod Settled
 pub mod Worked
