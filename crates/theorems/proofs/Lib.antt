@@ -16,6 +16,8 @@ pub mod Renaming
 pub mod Turning
 pub mod Pairing
 pub mod Diagonal
+pub mod Partners
+pub mod ShorterWay
 pub mod Squares
 pub mod Better
 pub mod Mirror

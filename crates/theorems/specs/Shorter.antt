@@ -1,6 +1,10 @@
 -- Boards that are not square: the pairs of cells by which the side with the shorter way plays.
 -- Definitions only.
-use Rattle.std.specs.Prelude.{ℕ, ◌+◌, ◌-◌, ◌*◌, ◌/◌, ◌%◌, if◌then◌else◌, nat_lt, nat_le}
+use Rattle.std.specs.Prelude.{◌≡◌, ℕ, ◌+◌, ◌-◌, ◌*◌, ◌/◌, ◌%◌, ◌<◌, ◌≢◌, ◌⊎◌, List, if◌then◌else◌, replicate, nat_lt, nat_le}
+use Rattle.hexboard.specs.Board.{other}
+use Rattle.hexboard.specs.Laying.{IsSide, IsPosition, CanForce}
+use Rattle.hexboard.specs.Shapes.{shape_rules, rhombus}
+use Rattle.theorems.specs.Pairs.{IsPairing, HasOneOrNone, IsEnough, WinsAnswering}
 
 -- a place by row and column, from 0
 pub record Place : Type 0 where
@@ -46,3 +50,36 @@ partner w t i = cell_at w (partner_place w t (place_of w i))
 -- the side with the shorter way: top and bottom are nearer on a board wider than tall
 abbrev pub shorter_side : ℕ → ℕ → ℕ
 shorter_side w t = if nat_lt t w then 1 else 2
+
+-- The partners are a pairing of the board's cells.
+abbrev pub PartnersPairOff : Type 0
+PartnersPairOff = (w t : ℕ) → IsPairing (w * t) (partner w t)
+
+-- One cell of each pair is enough for the side with the shorter way, whatever the position.
+abbrev pub PartnersAreEnough : Type 0
+PartnersAreEnough =
+    (w t : ℕ) (b : List ℕ) → 0 < w → 0 < t → w ≢ t →
+    IsEnough (shape_rules (rhombus w t)) (shorter_side w t) (partner w t) b
+
+-- It can force that it connects from every position in which it has one cell of each pair where not
+-- both are empty, whoever is to move.
+abbrev pub PartnersCanForce : Type 0
+PartnersCanForce =
+    (w t s : ℕ) (b : List ℕ) → 0 < w → 0 < t → w ≢ t → IsSide s →
+    IsPosition (shape_rules (rhombus w t)) b → HasOneOrNone (shorter_side w t) (partner w t) b →
+    CanForce (shape_rules (rhombus w t)) (shorter_side w t) b s
+
+-- On the empty board, whoever is to move, the side with the shorter way can force that it connects,
+-- and the other cannot.
+abbrev pub ShorterCanForce : Type 0
+ShorterCanForce =
+    (w t s : ℕ) → 0 < w → 0 < t → w ≢ t → IsSide s →
+    CanForce (shape_rules (rhombus w t)) (shorter_side w t) (replicate (w * t) 0) s
+    × (CanForce (shape_rules (rhombus w t)) (other (shorter_side w t)) (replicate (w * t) 0) s → ⊥)
+
+-- On a board whose measures differ by one, it wins as the second to move by answering each move on the
+-- partner of its cell.
+abbrev pub PartnersAnswer : Type 0
+PartnersAnswer =
+    (w t : ℕ) → 0 < w → 0 < t → (w ≡ t + 1) ⊎ (t ≡ w + 1) →
+    WinsAnswering (shape_rules (rhombus w t)) (shorter_side w t) (partner w t) (replicate (w * t) 0)
