@@ -18,6 +18,7 @@ pub mod Pairing
 pub mod Diagonal
 pub mod Partners
 pub mod ShorterWay
+pub mod SameSquares
 pub mod Squares
 pub mod Better
 pub mod Mirror

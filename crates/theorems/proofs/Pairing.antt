@@ -1,5 +1,5 @@
 -- Answering in pairs wins, where one cell of each pair is enough.
-use Rattle.std.proofs.Common.{◌≡◌, ℕ, zero, suc, ◌+◌, ◌<◌, ◌≤◌, ◌≢◌, ◌⊎◌, List, length, get_or, set, sym, refl, ap, ◌∙◌, subst, inl, inr, ⊎_elim, arith}
+use Rattle.std.proofs.Common.{◌≡◌, ℕ, zero, suc, ◌+◌, ◌<◌, ◌≤◌, ◌≢◌, ◌⊎◌, List, length, get_or, set, sym, refl, ap, ◌∙◌, subst, subst₂, inl, inr, ⊎_elim, arith}
 use mathlib.Core.Logic.{⊎_swap}
 use Rattle.std.proofs.lemmas.List.{length-set, get_or-set_same, get_or-set_other}
 use Rattle.std.proofs.lemmas.Bool.{cases_eq}
@@ -32,45 +32,57 @@ module _ {n : ℕ} {partner : ℕ → ℕ} (pairs : IsPairing n partner) where
   other_cell : (i k : ℕ) → i < n → k < n → k ≢ i → partner k ≢ partner i
   other_cell i k hi hk apart e = apart (sym (pairs.back k hk) ∙ (ap partner e ∙ pairs.back i hi))
 
-  -- After changes in one pair, or in no pair, side s has one cell of each pair where not both are empty, if it has one of that pair.
-  has_one : (s : ℕ) (b c : List ℕ) (i : ℕ) → length b ≡ n → length c ≡ length b → i < length b →
-      ((k : ℕ) → k ≢ i → k ≢ partner i → get_or c k 0 ≡ get_or b k 0) →
-      (partner i ≢ i → (get_or c i 0 ≡ s) ⊎ (get_or c (partner i) 0 ≡ s)) → HasOneOrNone s partner b → HasOneOrNone s partner c
-  has_one s b c i long same h stays here held k hk paired = go (cases_eq k i) (cases_eq k (partner i))
+  -- Where changes are made in one pair, or in no pair, what holds of each pair goes on holding if it holds of that one.
+  pair_by_pair : (Q : ℕ → ℕ → Type 0) → ((x y : ℕ) → Q x y → Q y x) → (b c : List ℕ) (i : ℕ) → i < n →
+      ((k : ℕ) → k ≢ i → k ≢ partner i → get_or c k 0 ≡ get_or b k 0) → (partner i ≢ i → Q (get_or c i 0) (get_or c (partner i) 0)) →
+      (k : ℕ) → k < n → partner k ≢ k → Q (get_or b k 0) (get_or b (partner k) 0) → Q (get_or c k 0) (get_or c (partner k) 0)
+  pair_by_pair Q turn b c i on stays here k on_k paired held = go (cases_eq k i) (cases_eq k (partner i))
     where
-      on : i < n
-      on = omega arith
+      Goal : ℕ → Type 0
+      Goal j = Q (get_or c j 0) (get_or c (partner j) 0)
 
-      on_k : k < n
-      on_k = omega arith
+      first : k ≡ i → Goal k
+      first e = subst Goal (sym e) (here (λ alone. paired (subst (λ j. partner j ≡ j) (sym e) alone)))
 
-      Goal : Type 0
-      Goal = ((get_or c k 0 ≡ s) ⊎ (get_or c (partner k) 0 ≡ s)) ⊎ ((get_or c k 0 ≡ 0) × (get_or c (partner k) 0 ≡ 0))
-
-      first : k ≡ i → Goal
-      first e =
-          inl (subst (λ j. (get_or c j 0 ≡ s) ⊎ (get_or c (partner j) 0 ≡ s)) (sym e)
-          (here (λ alone. paired (subst (λ j. partner j ≡ j) (sym e) alone))))
-
-      second : k ≡ partner i → Goal
+      second : k ≡ partner i → Goal k
       second e =
           let back : partner k ≡ i = ap partner e ∙ pairs.back i on in
           let apart : partner i ≢ i = λ alone. paired (back ∙ (sym alone ∙ sym e)) in
-          inl (⊎_swap (subst (λ j. (get_or c j 0 ≡ s) ⊎ (get_or c k 0 ≡ s)) (sym back)
-          (subst (λ j. (get_or c i 0 ≡ s) ⊎ (get_or c j 0 ≡ s)) (sym e) (here apart))))
+          subst₂ (λ x y. Q (get_or c x 0) (get_or c y 0)) (sym e) (sym back) (turn (get_or c i 0) (get_or c (partner i) 0) (here apart))
 
-      unchanged : get_or c k 0 ≡ get_or b k 0 → get_or c (partner k) 0 ≡ get_or b (partner k) 0 → Goal
-      unchanged e f = kept (held k (omega arith) paired)
-        where
-          kept : ((get_or b k 0 ≡ s) ⊎ (get_or b (partner k) 0 ≡ s)) ⊎ ((get_or b k 0 ≡ 0) × (get_or b (partner k) 0 ≡ 0)) → Goal
-          kept (inl (inl p)) = inl (inl (e ∙ p))
-          kept (inl (inr p)) = inl (inr (f ∙ p))
-          kept (inr (p, q)) = inr (e ∙ p, f ∙ q)
-
-      go : (k ≡ i) ⊎ (k ≡ i → ⊥) → (k ≡ partner i) ⊎ (k ≡ partner i → ⊥) → Goal
+      go : (k ≡ i) ⊎ (k ≡ i → ⊥) → (k ≡ partner i) ⊎ (k ≡ partner i → ⊥) → Goal k
       go (inl e) _ = first e
       go (inr _) (inl e) = second e
-      go (inr apart) (inr m) = unchanged (stays k apart m) (stays (partner k) (other_pair i k on_k m) (other_cell i k on on_k apart))
+      go (inr apart) (inr m) =
+          subst₂ Q (sym (stays k apart m)) (sym (stays (partner k) (other_pair i k on_k m) (other_cell i k on on_k apart))) held
+
+-- what is to hold of the two cells of a pair: side s has one, or both are empty
+abbrev OneOrNone : ℕ → ℕ → ℕ → Type 0
+OneOrNone s x y = ((x ≡ s) ⊎ (y ≡ s)) ⊎ ((x ≡ 0) × (y ≡ 0))
+
+turn_one : (s x y : ℕ) → OneOrNone s x y → OneOrNone s y x
+turn_one s x y (inl one) = inl (⊎_swap one)
+turn_one s x y (inr (p, q)) = inr (q, p)
+
+-- and after answers: both are empty, or neither is and side s has one
+abbrev Answered : ℕ → ℕ → ℕ → Type 0
+Answered s x y = ((x ≡ 0) × (y ≡ 0)) ⊎ (((x ≡ s) ⊎ (y ≡ s)) × (x ≢ 0) × (y ≢ 0))
+
+turn_answered : (s x y : ℕ) → Answered s x y → Answered s y x
+turn_answered s x y (inl (p, q)) = inl (q, p)
+turn_answered s x y (inr (one, p, q)) = inr (⊎_swap one, q, p)
+
+one_if_answered : (s x y : ℕ) → Answered s x y → OneOrNone s x y
+one_if_answered s x y (inl none) = inr none
+one_if_answered s x y (inr (one, _, _)) = inl one
+
+-- A move of the other and the answer to it change no other pair.
+unchanged : (s : ℕ) (partner : ℕ → ℕ) (b : List ℕ) (i k : ℕ) → k ≢ i → k ≢ partner i → get_or (set (set b i (other s)) (partner i) s) k 0 ≡ get_or b k 0
+unchanged s partner b i k n m = get_or-set_other (set b i (other s)) (partner i) k s 0 m ∙ get_or-set_other b i k (other s) 0 n
+
+-- While each move is answered in its pair, the partner of an empty cell is empty.
+both_empty : (s : ℕ) (partner : ℕ → ℕ) (b : List ℕ) → IsAnswered s partner b → (i : ℕ) → i < length b → get_or b i 0 ≡ 0 → get_or b (partner i) 0 ≡ 0
+both_empty s partner b a i h z = ⊎_elim (λ e. e.1) (λ e. absurd (e.1 z)) (a i h).1
 
 -- from positions with at most k empty cells side s can force it, whoever is to move
 abbrev Within : Rules → ℕ → (ℕ → ℕ) → ℕ → Type 0
@@ -91,26 +103,34 @@ module _ {g : Rules} {s : ℕ} {partner : ℕ → ℕ} (side : Side s) (pairs : 
 
   -- a position, with side s to answer in pairs
   module _ (b : List ℕ) (p : IsPosition g b) (held : HasOneOrNone s partner b) (i : ℕ) (h : i < length b) (z : get_or b i 0 ≡ 0) where
+    on : i < g.count
+    on = omega (arith, p.long)
+
+    on_partner : partner i < length b
+    on_partner = omega (arith, p.long, pairs.on i on)
+
     -- A stone of its own, anywhere, keeps it so.
     own_keeps : HasOneOrNone s partner (set b i s)
-    own_keeps =
-        has_one pairs s b (set b i s) i p.long (length-set b i s) h (λ k n _. get_or-set_other b i k s 0 n) (λ _. inl (get_or-set_same b i s 0 h)) held
+    own_keeps k hk paired =
+        let on_k : k < length b = rw length-set at hk in
+        pair_by_pair pairs (OneOrNone s) (turn_one s) b (set b i s) i on (λ k n _. get_or-set_other b i k s 0 n)
+        (λ _. inl (inl (get_or-set_same b i s 0 h))) k (omega (arith, p.long)) paired (held k on_k paired)
 
     -- So does a stone of the other in no pair, or in a pair in which it has its stone;
     taken_keeps : (partner i ≢ i → get_or b (partner i) 0 ≡ s) → HasOneOrNone s partner (set b i (other s))
-    taken_keeps has_it =
-        has_one pairs s b (set b i (other s)) i p.long (length-set b i (other s)) h (λ k n _. get_or-set_other b i k (other s) 0 n)
-        (λ paired. inr (get_or-set_other b i (partner i) (other s) 0 paired ∙ has_it paired)) held
+    taken_keeps has_it k hk paired =
+        let on_k : k < length b = rw length-set at hk in
+        pair_by_pair pairs (OneOrNone s) (turn_one s) b (set b i (other s)) i on (λ k n _. get_or-set_other b i k (other s) 0 n)
+        (λ paired. inl (inr (get_or-set_other b i (partner i) (other s) 0 paired ∙ has_it paired)))
+        k (omega (arith, p.long)) paired (held k on_k paired)
 
     -- and with the answer to it a stone of the other in an empty pair.
-    on_partner : partner i < length b
-    on_partner = omega (arith, p.long, pairs.on i (omega (arith, p.long)))
-
     answer_keeps : HasOneOrNone s partner (set (set b i (other s)) (partner i) s)
-    answer_keeps =
-        has_one pairs s b (set (set b i (other s)) (partner i) s) i p.long (length-set (set b i (other s)) (partner i) s ∙ length-set b i (other s)) h
-        (λ k n m. get_or-set_other (set b i (other s)) (partner i) k s 0 m ∙ get_or-set_other b i k (other s) 0 n)
-        (λ _. inr (get_or-set_same (set b i (other s)) (partner i) s 0 (rw length-set on_partner))) held
+    answer_keeps k hk paired =
+        let on_k : k < length b = simp length-set at hk in
+        pair_by_pair pairs (OneOrNone s) (turn_one s) b (set (set b i (other s)) (partner i) s) i on (unchanged s partner b i)
+        (λ _. inl (inr (get_or-set_same (set b i (other s)) (partner i) s 0 (rw length-set on_partner))))
+        k (omega (arith, p.long)) paired (held k on_k paired)
 
   -- With an empty cell more, side s puts a stone anywhere, or answers in the pair.
   one_more : (k : ℕ) → Within g s partner k → Within g s partner (suc k)
@@ -173,6 +193,62 @@ module _ {g : Rules} {s : ℕ} {partner : ℕ → ℕ} (side : Side s) (pairs : 
   pub can_from : (b : List ℕ) → IsPosition g b → HasOneOrNone s partner b → IsEnough g s partner b → (t : ℕ) → Side t → CanForce g s b t
   can_from b = within (empties b) b (omega arith)
 
+  -- It stays so by the next answer.
+  answer_stays : (b : List ℕ) → IsPosition g b → IsAnswered s partner b → (i : ℕ) → i < length b → get_or b i 0 ≡ 0 →
+      IsAnswered s partner (set (set b i (other s)) (partner i) s)
+  answer_stays b p a i h z k hk =
+      let on : i < g.count = omega (arith, p.long) in
+      let on_k : k < length b = simp length-set at hk in
+      let apart = (a i h).0 in
+      let on_partner : partner i < length (set b i (other s)) = rw length-set (omega (arith, p.long, pairs.on i on)) in
+      let there : get_or (set (set b i (other s)) (partner i) s) i 0 ≡ other s =
+          get_or-set_other (set b i (other s)) (partner i) i s 0 (λ e. apart (sym e)) ∙ get_or-set_same b i (other s) 0 h in
+      let here : get_or (set (set b i (other s)) (partner i) s) (partner i) 0 ≡ s = get_or-set_same (set b i (other s)) (partner i) s 0 on_partner in (
+        (a k on_k).0,
+        pair_by_pair pairs (Answered s) (turn_answered s) b (set (set b i (other s)) (partner i) s) i on (unchanged s partner b i)
+        (λ _. inr (inr here, λ e. omega arith, λ e. omega arith)) k (omega (arith, p.long)) (a k on_k).0 (a k on_k).1
+      )
+
+  -- So it goes on to a full position.
+  one_answer : (b : List ℕ) → IsPosition g b → IsAnswered s partner b → IsEnough g s partner b →
+      ((c : List ℕ) → empties c < empties b → IsPosition g c → IsAnswered s partner c → IsEnough g s partner c → WinsAnswering g s partner c) →
+      WinsAnswering g s partner b
+  one_answer b p a enough rest = go (empty_or_full b)
+    where
+      there : (i : ℕ) → i < length b → partner i < length b
+      there i h = omega (arith, p.long, pairs.on i (omega (arith, p.long)))
+
+      free : (i : ℕ) → i < length b → get_or b i 0 ≡ 0 → get_or (set b i (other s)) (partner i) 0 ≡ 0
+      free i h z = get_or-set_other b i (partner i) (other s) 0 (a i h).0 ∙ both_empty s partner b a i h z
+
+      next : (i : ℕ) → i < length b → get_or b i 0 ≡ 0 → WinsAnswering g s partner (set (set b i (other s)) (partner i) s)
+      next i h z =
+          let c = set b i (other s) in
+          let on : partner i < length c = rw length-set (there i h) in
+          let fewer = empties_set b i (other s) h z (omega arith) in
+          let again = empties_set c (partner i) s on (free i h z) (omega arith) in
+          rest (set c (partner i) s) (omega arith)
+          (set_position (partner i) s (omega arith) (set_position i (other s) (omega arith) p)) (answer_stays b p a i h z)
+          (enough_after c (partner i) s (free i h z) (enough_after b i (other s) z enough))
+
+      go : EmptyIn b ⊎ (empties b ≡ 0) → WinsAnswering g s partner b
+      go (inl (m, h, z)) = answers (empty_counts b m h z) (λ i h z. there i h) free next
+      go (inr none) = won none (full_wins b p none (λ i h _. one_if_answered s (get_or b i 0) (get_or b (partner i) 0) (a i h).1) enough)
+
+  answers_within : (k : ℕ) (b : List ℕ) → empties b < k → IsPosition g b → IsAnswered s partner b → IsEnough g s partner b →
+      WinsAnswering g s partner b
+  answers_within zero b few p a enough = absurd (omega arith)
+  answers_within (suc k) b few p a enough = one_answer b p a enough (λ c less. answers_within k c (omega arith))
+
 -- So from every such position, whoever is to move.
 pub pairs_can_force : {g : Rules} → PairsCanForce g
 pairs_can_force s t partner b side turn p pairs held enough = can_from side pairs b p held enough t turn
+
+pub answering_wins : {g : Rules} → AnsweringWins g
+answering_wins s partner b side p pairs a enough = answers_within side pairs (empties b + 1) b (omega arith) p a enough
+
+-- To win by answering is one way to force it, with the other to move.
+pub answering_can_force : {g : Rules} {s : ℕ} {answer : ℕ → ℕ} {b : List ℕ} → WinsAnswering g s answer b → CanForce g s b (other s)
+answering_can_force {s = s} (won none w) = has (other s) w
+answering_can_force {answer = answer} (answers some on free next) =
+    theirs some (λ i h z. mine (answer i) (rw length-set (on i h z)) (free i h z) (answering_can_force (next i h z)))

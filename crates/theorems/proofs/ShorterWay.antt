@@ -1,15 +1,16 @@
 -- The side with the shorter way: one cell of each pair is enough for it, so it can force that it connects, whoever is to move.
 use Rattle.std.proofs.Common.{◌≡◌, ℕ, ◌+◌, ◌-◌, ◌*◌, ◌/◌, ◌%◌, ◌<◌, ◌≤◌, Bool, true, false, not, cond, eqb, ◌≢◌, ◌⊎◌, List, length, get_or, replicate, All, sym, refl, ap, ap₂, ◌∙◌, subst, inl, inr, ⊎_elim, arith, lit<}
-use Rattle.std.proofs.lemmas.Bool.{lt-ltb, le-ltb, cases_lt, eq-eqb, false≢true}
+use Rattle.std.proofs.lemmas.Bool.{lt-ltb, le-ltb, cases_eq, cases_lt, eq-eqb, false≢true}
 use Rattle.std.proofs.lemmas.Bool.Decides.{nat_tests}
 use Rattle.std.proofs.lemmas.List.{length-replicate, get_or-replicate}
 use Rattle.std.proofs.lemmas.List.Elements.{All-replicate}
-use Rattle.std.proofs.lemmas.Nat.{mul-add-lt}
+use Rattle.std.proofs.lemmas.Nat.{mul-add-lt, div_below, mod_below}
 use Rattle.hexboard.specs.Board.{empties, other}
 use Rattle.hexboard.specs.Laying.{HasWon, CanForce, IsPosition}
 use Rattle.hexboard.specs.Shapes.{shape_rules, rhombus}
-use Rattle.theorems.specs.Pairs.{HasOneOfEach, HasOneOrNone, IsEnough}
-use Rattle.theorems.specs.Shorter.{place_of, cell_at, flip, partner, shorter_side, PartnersAreEnough, PartnersCanForce, ShorterCanForce}
+use Rattle.theorems.specs.Pairs.{HasOneOfEach, HasOneOrNone, IsEnough, IsAnswered}
+use Rattle.theorems.specs.Forcing.{FirstCanForce}
+use Rattle.theorems.specs.Shorter.{place_of, cell_at, flip, partner, shorter_side, PartnersAreEnough, PartnersCanForce, ShorterCanForce, PartnersAnswer, FirstExactlyOnSquares}
 use Rattle.theorems.specs.Shorter as shorter
 use Rattle.theorems.proofs.Cells.{Cell, Near, along}
 use Rattle.theorems.proofs.Line.{On, Led, first, more, OnBoard, Across}
@@ -17,10 +18,12 @@ use Rattle.theorems.proofs.NeverNeither.{number, number_row, number_column, colo
 use Rattle.theorems.proofs.Rhombi.{from_places}
 use Rattle.theorems.proofs.Diagonal.{Above, mate, one_crosses}
 use Rattle.theorems.proofs.Partners.{above_mate, wide_place, tall_place, partner_at, paired_wide, paired_tall, partners_pair_off, same_place}
-use Rattle.theorems.proofs.Pairing.{pairs_can_force}
+use Rattle.theorems.proofs.Pairing.{pairs_can_force, answering_wins}
 use Rattle.theorems.proofs.Outcome.{not_both_forced}
 use Rattle.theorems.proofs.Stones.{Side, against_other}
-use Rattle.theorems.proofs.Turning.{rhombi_lawful}
+use Rattle.theorems.proofs.Turning.{rhombi_lawful, rhombi_exchange}
+use Rattle.theorems.proofs.Renaming.{first_can_force}
+use Rattle.hexboard.proofs.Boards.{other_side}
 
 -- rows and columns exchanged, for the line
 abbrev flip_cell : Cell → Cell
@@ -179,3 +182,34 @@ pub shorter_can_force : ShorterCanForce
 shorter_can_force w t s hw ht n turn =
     let can = partners_can_force w t s (replicate (w * t) 0) hw ht n turn (empty_position w t) (empty_pairs w t (shorter_side w t)) in
     (can, not_both_forced (rhombi_lawful w t hw ht) can (other (shorter_side w t)) (against_other (shorter_side w t) (is_side w t)) (empty_position w t))
+
+-- Where the measures differ by one, each cell is in a pair: so each move can be answered on its partner.
+pub partners_answer : PartnersAnswer
+partners_answer w t hw ht by_one =
+    answering_wins (shorter_side w t) (partner w t) (replicate (w * t) 0) (is_side w t) (empty_position w t) (partners_pair_off w t) begun
+    (partners_are_enough w t (replicate (w * t) 0) hw ht (omega arith))
+  where
+    paired : (i : ℕ) → i < w * t → partner w t i ≢ i
+    paired i h =
+        ⊎_elim
+        (λ e. paired_wide w t i h (omega arith) (omega (arith, mod_below i w hw)))
+        (λ e. paired_tall w t i h (omega arith) (omega (arith, div_below i w t hw (omega arith))))
+        by_one
+
+    begun : IsAnswered (shorter_side w t) (partner w t) (replicate (w * t) 0)
+    begun i h =
+        let on : i < w * t = rw length-replicate at h in
+        (paired i on, inl (get_or-replicate {A = ℕ} (w * t) i 0 0 on, get_or-replicate {A = ℕ} (w * t) (partner w t i) 0 0 ((partners_pair_off w t).on i on)))
+
+-- The first one wins on squares, and on no other board.
+pub first_exactly_on_squares : FirstExactlyOnSquares
+first_exactly_on_squares w t hw ht = (
+  (λ e. subst (λ h. FirstCanForce (shape_rules (rhombus w h))) e (first_can_force (rhombi_lawful w w hw hw) (rhombi_exchange w w))),
+  (λ wins. ⊎_elim (λ e. e) (λ n. absurd (second wins n)) (cases_eq w t)),
+)
+  where
+    second : FirstCanForce (shape_rules (rhombus w t)) → w ≢ t → ⊥
+    second wins n =
+        let longer = other (shorter_side w t) in
+        let turn : Side longer = other_side (shorter_side w t) (is_side w t) in
+        (shorter_can_force w t longer hw ht n turn).1 (wins longer turn).0

@@ -68,3 +68,8 @@ AnsweringWins g =
     (s : ℕ) (partner : ℕ → ℕ) (b : List ℕ) → IsSide s → IsPosition g b →
     IsPairing g.count partner → IsAnswered s partner b → IsEnough g s partner b →
     WinsAnswering g s partner b
+
+-- Who wins by answering can force that it wins, with the other to move.
+abbrev pub AnsweringCanForce : Rules → Type 0
+AnsweringCanForce g =
+    (s : ℕ) (answer : ℕ → ℕ) (b : List ℕ) → WinsAnswering g s answer b → CanForce g s b (other s)

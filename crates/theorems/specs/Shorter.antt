@@ -1,9 +1,10 @@
 -- Boards that are not square: the pairs of cells by which the side with the shorter way plays.
 -- Definitions only.
-use Rattle.std.specs.Prelude.{◌≡◌, ℕ, ◌+◌, ◌-◌, ◌*◌, ◌/◌, ◌%◌, ◌<◌, ◌≢◌, ◌⊎◌, List, if◌then◌else◌, replicate, nat_lt, nat_le}
+use Rattle.std.specs.Prelude.{◌≡◌, ℕ, ◌+◌, ◌-◌, ◌*◌, ◌/◌, ◌%◌, ◌<◌, ◌≢◌, ◌⊎◌, ◌↔◌, List, if◌then◌else◌, replicate, nat_lt, nat_le}
 use Rattle.hexboard.specs.Board.{other}
 use Rattle.hexboard.specs.Laying.{IsSide, IsPosition, CanForce}
 use Rattle.hexboard.specs.Shapes.{shape_rules, rhombus}
+use Rattle.theorems.specs.Forcing.{FirstCanForce}
 use Rattle.theorems.specs.Pairs.{IsPairing, HasOneOrNone, IsEnough, WinsAnswering}
 
 -- a place by row and column, from 0
@@ -83,3 +84,8 @@ abbrev pub PartnersAnswer : Type 0
 PartnersAnswer =
     (w t : ℕ) → 0 < w → 0 < t → (w ≡ t + 1) ⊎ (t ≡ w + 1) →
     WinsAnswering (shape_rules (rhombus w t)) (shorter_side w t) (partner w t) (replicate (w * t) 0)
+
+-- Whoever is to move on the empty board can force that it connects on squares, and on no other board.
+abbrev pub FirstExactlyOnSquares : Type 0
+FirstExactlyOnSquares =
+    (w t : ℕ) → 0 < w → 0 < t → (w ≡ t ↔ FirstCanForce (shape_rules (rhombus w t)))
