@@ -6,15 +6,15 @@ use Rattle.theorems.proofs.Leading.{Leads, IsLed}
 use Rattle.theorems.proofs.Rhombi.{board_track}
 
 -- Two ways to choose are one.
-pick_if : {A : Type 0} (c : Bool) (a b : A) → pick c a b ≡ cond c a b
+pub pick_if : {A : Type 0} (c : Bool) (a b : A) → pick c a b ≡ cond c a b
 pick_if true a b = refl
 pick_if false a b = refl
 
 -- The borders are the same,
-begins_starts : (n s i : ℕ) → begins n s i ≡ starts n s i
+pub begins_starts : (n s i : ℕ) → begins n s i ≡ starts n s i
 begins_starts n s i = pick_if (eqb s 1) (eqb (i / n) 0) (eqb (i % n) 0)
 
-ends_finishes : (n s i : ℕ) → ends n s i ≡ finishes n n s i
+pub ends_finishes : (n s i : ℕ) → ends n s i ≡ finishes n n s i
 ends_finishes n s i = pick_if (eqb s 1) (eqb (i / n + 1) n) (eqb (i % n + 1) n)
 
 -- and so is what leads on from a cell, and what is a way.

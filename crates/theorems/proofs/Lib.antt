@@ -14,6 +14,11 @@ pub mod Advantage
 pub mod Outcome
 pub mod Renaming
 pub mod Turning
+pub mod Pairing
+pub mod Diagonal
+pub mod Partners
+pub mod ShorterWay
+pub mod SameSquares
 pub mod Squares
 pub mod Better
 pub mod Mirror

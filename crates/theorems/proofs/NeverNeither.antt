@@ -20,7 +20,7 @@ abbrev pub side : Bool → ℕ
 side s = cond s 1 2
 
 -- a cell's number on the board, whose rows and columns count from 1 for the line
-pub number : ℕ → Cell → ℕ
+unfoldable pub number : ℕ → Cell → ℕ
 number w p = (p.row - 1) * w + (p.column - 1)
 
 -- From the number, its row and column.
@@ -48,7 +48,7 @@ of_side : (s : Bool) (x : ℕ) → x < 3 → (x ≡ 0 → ⊥) → eqb x 1 ≡ s
 of_side s x h k e = grind (arith, nat_tests)
 
 -- whether side 1 has the cell, on a board w wide
-pub colour : ℕ → List ℕ → Cell → Bool
+unfoldable pub colour : ℕ → List ℕ → Cell → Bool
 colour w cells p = eqb (get_or cells (number w p) 0) 1
 
 -- the cells of a board w wide and t tall, none of them empty: each is of side 1 or else of side 2

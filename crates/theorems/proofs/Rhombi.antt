@@ -140,10 +140,21 @@ stone_parts s cells i e = grind (arith, nat_tests)
 pub stone_from : (s : ℕ) (cells : List ℕ) (i : ℕ) → i < length cells → get_or cells i 0 ≡ s → has_stone s cells i ≡ true
 stone_from s cells i h e = grind (arith, nat_tests)
 
+-- Whatever is next to what: where all stones of a side stay, its ways stay.
+pub track_stays : (next : ℕ → ℕ → Bool) (first last : ℕ → Bool) (s : ℕ) (b c : List ℕ) → length c ≡ length b →
+    ((i : ℕ) → i < length b → get_or b i 0 ≡ s → get_or c i 0 ≡ s) →
+    Carries (record { next = next; own = has_stone s b; first = first; last = last }) (record { next = next; own = has_stone s c; first = first; last = last }) (λ i. i)
+track_stays next first last s b c long stays = record {
+  own = λ i o. let h = stone_parts s b i o in stone_from s c i (omega (arith, h.0, long)) (stays i h.0 h.1);
+  next = λ i j _ _ e. e;
+  first = λ i _ e. e;
+  last = λ i _ e. e;
+}
+
 -- as many cells as the board has
 module _ (w t s : ℕ) (cells : List ℕ) (long : length cells ≡ w * t) where
   -- The ways of the shape are those by row and column,
-  shape_carries : Carries (shape_track (rhombus w t) s cells) (board_track w t s cells) (λ i. i)
+  pub shape_carries : Carries (shape_track (rhombus w t) s cells) (board_track w t s cells) (λ i. i)
   shape_carries = record {
     own = λ i o. o;
     next = λ i j _ _ e. (next_beside w t i j e).near;
@@ -151,7 +162,7 @@ module _ (w t s : ℕ) (cells : List ℕ) (long : length cells ≡ w * t) where
     last = λ i _ e. sym (last_border w t s i) ∙ e;
   }
 
-  board_carries : Carries (board_track w t s cells) (shape_track (rhombus w t) s cells) (λ i. i)
+  pub board_carries : Carries (board_track w t s cells) (shape_track (rhombus w t) s cells) (λ i. i)
   board_carries = record {
     own = λ i o. o;
     next = λ i j o p e. beside_next w t i j (record {

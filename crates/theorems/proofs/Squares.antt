@@ -2,16 +2,19 @@
 use Rattle.std.proofs.Common.{◌≡◌, ℕ, suc, ◌<◌, true, List, [], ◌∷◌, refl, All, arith}
 use Rattle.std.proofs.lemmas.List.Elements.{All-from_get_or}
 use Rattle.std.proofs.lemmas.Bool.{and_from, lt-ltb}
-use Rattle.hexboard.specs.Board.{Board}
+use Rattle.hexboard.specs.Board.{Board, next_to}
 use Rattle.hexboard.specs.Games as games
 use Rattle.hexboard.specs.Games.{Forces}
 use Rattle.hexboard.specs.Geometry.{laid}
 use Rattle.hexboard.specs.Laying.{CanForce, has, mine, theirs, IsPosition, KeepsWins, IsLawful, square_rules}
 use Rattle.hexboard.specs.Promise.{good_cells, Good, NeverBoth, NeverNeither}
+use Rattle.hexboard.specs.Shapes.{starts, finishes}
 use Rattle.hexboard.proofs.Boards.{good_at}
 use Rattle.theorems.proofs.NeverBoth.{never_both}
 use Rattle.theorems.proofs.NeverNeither.{never_neither_lem}
-use Rattle.theorems.proofs.Ways.{carried}
+use Rattle.theorems.proofs.Leading.{carried}
+use Rattle.theorems.proofs.Rhombi.{board_track, track_stays}
+use Rattle.theorems.proofs.BoardWays.{of_board, to_board}
 
 -- What can be forced on a board can be forced in the game,
 pub to_game : {s : ℕ} {b : Board} {t : ℕ} → Forces s b t → CanForce (square_rules b.wide) s b.cells t
@@ -41,12 +44,7 @@ position {b} g = record { long = g.1; stones = All-from_get_or (λ c. c < 3) b.c
 
 -- Stones more, and changes of the other's, leave a way a way.
 pub squares_keep : (n : ℕ) → KeepsWins (square_rules n)
-squares_keep n s b c _ long stays = carried {b = laid n b} {c = laid n c} {f = λ i. i} (record {
-  stone = λ i h. (omega (arith, h.0), stays i h.0 h.1);
-  next = λ i j _ _ e. e;
-  first = λ i _ e. e;
-  last = λ i _ e. e;
-})
+squares_keep n s b c _ long stays w = to_board (laid n c) s (carried {k = board_track n n s b} {m = board_track n n s c} {f = λ i. i} (track_stays (next_to n) (starts n s) (finishes n n s) s b c long stays) (of_board (laid n b) s w))
 
 -- Never both, and never neither.
 pub squares_lawful : (n : ℕ) → 0 < n → IsLawful (square_rules n)

@@ -3,12 +3,13 @@ use Rattle.std.proofs.Common.{◌≡◌, ℕ, ◌+◌, ◌*◌, ◌/◌, ◌%◌
 use mathlib.Core.Logic.{⊎_map}
 use Rattle.std.proofs.lemmas.Nat.{div_below, mod_below, mul-add-lt, div-mul-add, mod-mul-add, div-add-mod'}
 use Rattle.std.proofs.lemmas.Bool.Decides.{nat_tests}
-use Rattle.hexboard.specs.Board.{next_to, other}
+use Rattle.hexboard.specs.Board as board
+use Rattle.hexboard.specs.Board.{other}
 use Rattle.hexboard.specs.Laying.{opposite_stone, IsPosition, Renamed, Exchanges, IsLawful, KeepsWins}
-use Rattle.hexboard.specs.Shapes.{Shape, shape_rules, starts, finishes, rhombus, turned}
+use Rattle.hexboard.specs.Shapes.{Shape, next_to, at_first, at_last, shape_rules, starts, finishes, rhombus, turned}
 use Rattle.theorems.proofs.Stones.{Side}
 use Rattle.theorems.proofs.Leading.{Carries, carried}
-use Rattle.theorems.proofs.Rhombi.{shape_track, board_track, by_places, from_places, some_width, stone_parts, stone_from}
+use Rattle.theorems.proofs.Rhombi.{shape_track, board_track, by_places, from_places, some_width, stone_parts, stone_from, track_stays}
 use Rattle.theorems.proofs.NeverBoth.{never_both_on}
 use Rattle.theorems.proofs.NeverNeither.{one_leads}
 use Rattle.theorems.proofs.Renaming.{opposite_side}
@@ -37,7 +38,7 @@ module _ (w t i : ℕ) (h : i < w * t) where
   turned_back = ap (λ r. r * w + turned w t i / t) turned_column ∙ (ap (λ c. i / w * w + c) turned_row ∙ div-add-mod' i w)
 
 -- Neighbours stay neighbours: right and below change places, and the rising diagonal is turned about.
-next_turned : (w t i j : ℕ) → i < w * t → j < w * t → next_to w i j ≡ true → next_to t (turned w t i) (turned w t j) ≡ true
+next_turned : (w t i j : ℕ) → i < w * t → j < w * t → board.next_to w i j ≡ true → board.next_to t (turned w t i) (turned w t j) ≡ true
 next_turned w t i j hi hj e =
     let ri = turned_row w t i hi in
     let ci = turned_column w t i hi in
@@ -84,12 +85,8 @@ rhombi_exchange w t = record {
 
 -- On any shape stones more, and changes of the other's, leave a way a way.
 pub shape_keeps : (g : Shape) → KeepsWins (shape_rules g)
-shape_keeps g s b c _ long stays = carried {k = shape_track g s b} {m = shape_track g s c} {f = λ i. i} (record {
-  own = λ i o. let h = stone_parts s b i o in stone_from s c i (omega (arith, h.0)) (stays i h.0 h.1);
-  next = λ i j _ _ e. e;
-  first = λ i _ e. e;
-  last = λ i _ e. e;
-})
+shape_keeps g s b c _ long stays =
+    carried {k = shape_track g s b} {m = shape_track g s c} {f = λ i. i} (track_stays (next_to g) (at_first g s) (at_last g s) s b c long stays)
 
 -- Boards w wide and t tall are lawful: never both, and never neither.
 pub rhombi_lawful : (w t : ℕ) → 0 < w → 0 < t → IsLawful (shape_rules (rhombus w t))
