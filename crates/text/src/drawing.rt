@@ -19,7 +19,8 @@ pub struct Drawing<'a> {
 }
 
 impl fmt::Display for Drawing<'_> {
-    ghost output = { λ board. Some (board_lines board.size.n board.cells.now (words board.way.now)) };
+    ghost output = { λ board.
+        Some (board_lines board.size.n board.cells.now (words board.way.now)) };
 
     fn fmt<W: fmt::Write>(&self, f: &mut fmt::Formatter<W>) -> fmt::Result {
         for row in 0..self.size.width() {
@@ -34,7 +35,8 @@ impl Drawing<'_> {
     // The character of a cell: the number of the side whose stone stands there, if any, or on the
     // way its letter.
     fn mark(&self, cell: u16) -> &'static str
-        ensures { result.now ≡ mark (slice_index self.now.cells.now cell) (among (words self.now.way.now) cell) }
+        ensures { let marked = among (words self.now.way.now) cell in
+            result.now ≡ mark (slice_index self.now.cells.now cell) marked }
     {
         let Some(side) = hexboard::stone(self.cells, cell) else {
             return ".";

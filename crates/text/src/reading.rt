@@ -32,8 +32,8 @@ impl fmt::Display for Line {
     }
 }
 
-/// What the line, without its end, asks for. A number past 65535 is read as 65535. Where the line cannot
-/// be read, the length of its longest beginning that is the beginning of some line that can.
+/// What the line, without its end, asks for. A number past 65535 is read as 65535. Where the line
+/// cannot be read, the length of its longest beginning that is the beginning of some line that can.
 pub fn read_line(line: &[u8]) -> Result<Line, usize>
     ensures { Reads line.now result }
 {
@@ -53,7 +53,9 @@ pub fn read_line(line: &[u8]) -> Result<Line, usize>
 
 // What the digits behind the word are read as, or the place of the first byte that does not fit.
 fn number_after(word: &[u8], line: &[u8]) -> Result<u16, usize>
-    ensures { MatchResult result (λ n. Numbered word.now n line.now) (λ p. Stops (SomeNumbered word.now) line.now p) }
+    ensures { MatchResult result
+        (λ n. Numbered word.now n line.now)
+        (Stops (SomeNumbered word.now) line.now) }
 {
     let same = agree(word, line);
     if same < word.len() {
@@ -62,9 +64,10 @@ fn number_after(word: &[u8], line: &[u8]) -> Result<u16, usize>
     number(&line[same..]).map_err(|place| same + place)
 }
 
-// The call that is a word alone, or the place of the first byte that does not fit, as far as the furthest of the words goes.
+// The call that is a word alone, or the place of the first byte that does not fit, as far as the
+// furthest of the words goes.
 fn read_word(line: &[u8]) -> Result<Call, usize>
-    ensures { MatchResult result (λ call. Says line.now call) (λ p. Stops SomeWord line.now p) }
+    ensures { MatchResult result (Says line.now) (Stops SomeWord line.now) }
 {
     let words = [
         (b"back".as_slice(), Call::Back),
@@ -90,7 +93,7 @@ fn agree(word: &[u8], line: &[u8]) -> usize
 
 // Whether the line is the word, or else how far it goes along with it.
 fn is_word(word: &[u8], line: &[u8]) -> Result<(), usize>
-    ensures { MatchResult result (λ _. Word word.now line.now) (λ p. Stops (Word word.now) line.now p) }
+    ensures { MatchResult result (λ _. Word word.now line.now) (Stops (Word word.now) line.now) }
 {
     let same = agree(word, line);
     if same == word.len() && same == line.len() {
@@ -100,7 +103,8 @@ fn is_word(word: &[u8], line: &[u8]) -> Result<(), usize>
     }
 }
 
-// The number with one more digit behind it, or 65535 where that is larger; none if the byte is no digit.
+// The number with one more digit behind it, or 65535 where that is larger; none if the byte is no
+// digit.
 fn with_digit(value: u16, byte: u8) -> Option<u16>
     ensures { SomeIff result (digit_value byte < 10) (min (value * 10 + digit_value byte) 65535) }
 {
