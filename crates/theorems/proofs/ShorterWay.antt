@@ -15,7 +15,7 @@ use Rattle.theorems.specs.Shorter as shorter
 use Rattle.theorems.proofs.Cells.{Cell, Near, along}
 use Rattle.theorems.proofs.Line.{On, Led, first, more, OnBoard, Across}
 use Rattle.theorems.proofs.NeverNeither.{number, number_row, number_column, colour, across_way}
-use Rattle.theorems.proofs.Rhombi.{from_places}
+use Rattle.theorems.proofs.RhombusWays.{from_places}
 use Rattle.theorems.proofs.Diagonal.{Above, mate, one_crosses}
 use Rattle.theorems.proofs.Partners.{above_mate, wide_place, tall_place, partner_at, paired_wide, paired_tall, partners_pair_off, same_place}
 use Rattle.theorems.proofs.Pairing.{pairs_can_force, answering_wins}
