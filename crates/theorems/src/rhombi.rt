@@ -2,8 +2,8 @@
 // are among them, and that on all others the side with the shorter way wins, whoever begins. Each
 // theorem is on the contract of a function.
 
-ghost use Rattle.std.specs.Prelude.{◌≡◌, ℕ, ◌<◌, [], ◌∷◌, map, replicate};
-ghost use Rattle.hexboard.specs.Laying.{CanForce, IsLawful, Exchanges};
+ghost use Rattle.std.specs.Prelude.{◌≡◌, ℕ, ◌*◌, ◌<◌, [], ◌∷◌, map, replicate};
+ghost use Rattle.hexboard.specs.Laying.{IsSide, CanForce, IsLawful, Exchanges};
 ghost use Rattle.hexboard.specs.Shapes.{IsFair, shape_rules, rhombus, turned};
 ghost use Rattle.theorems.specs.Forcing.{OneCanForce, StoneIsNoLoss, MoveIsNoLoss};
 ghost use Rattle.theorems.specs.Rhombi.{SquaresAreRhombi};
@@ -36,7 +36,8 @@ pub fn squares_are_rhombi()
 //       f f d a .
 pub fn partners_pair_off()
     ensures theorem { PartnersPairOff }
-    ensures drawn { map (partner 5 3) (0 ∷ 1 ∷ 2 ∷ 3 ∷ 4 ∷ 5 ∷ 6 ∷ 7 ∷ 8 ∷ 9 ∷ 10 ∷ 11 ∷ 12 ∷ 13 ∷ 14 ∷ [])
+    ensures drawn { map (partner 5 3)
+        (0 ∷ 1 ∷ 2 ∷ 3 ∷ 4 ∷ 5 ∷ 6 ∷ 7 ∷ 8 ∷ 9 ∷ 10 ∷ 11 ∷ 12 ∷ 13 ∷ 14 ∷ [])
         ≡ (13 ∷ 8 ∷ 3 ∷ 2 ∷ 4 ∷ 12 ∷ 7 ∷ 6 ∷ 1 ∷ 9 ∷ 11 ∷ 10 ∷ 5 ∷ 0 ∷ 14 ∷ []) }
 {}
 
@@ -46,6 +47,10 @@ pub fn partners_pair_off()
 /// each move on the partner of its cell.
 pub fn shorter_way_wins()
     ensures theorem { ShorterCanForce }
+    ensures wide { (w t s : ℕ) → 0 < t → t < w → IsSide s →
+        CanForce (shape_rules (rhombus w t)) 1 (replicate (w * t) 0) s }
+    ensures tall { (w t s : ℕ) → 0 < w → w < t → IsSide s →
+        CanForce (shape_rules (rhombus w t)) 2 (replicate (w * t) 0) s }
     ensures enough { PartnersAreEnough }
     ensures held { PartnersCanForce }
     ensures answering { PartnersAnswer }

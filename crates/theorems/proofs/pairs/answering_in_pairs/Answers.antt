@@ -2,8 +2,4 @@ use Rattle.theorems.proofs.Pairing.{pairs_can_force, answering_wins, answering_c
 use Rattle.theorems.proofs.pairs.answering_in_pairs.Goals as goal
 
 pub returns : goal.returns
-returns c = record {
-  theorem = λ g. pairs_can_force;
-  answering = λ g. answering_wins;
-  forcing = λ g s answer b w. answering_can_force w;
-}
+returns c = record { theorem = pairs_can_force; answering = answering_wins; forcing = λ g s answer b w. answering_can_force w }
