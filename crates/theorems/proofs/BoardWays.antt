@@ -3,7 +3,7 @@ use Rattle.std.proofs.Common.{◌≡◌, ℕ, ◌+◌, ◌/◌, ◌%◌, Bool, t
 use Rattle.hexboard.specs.Board.{pick, Board, begins, ends, goes_on, is_way, Connects}
 use Rattle.hexboard.specs.Shapes.{leads_on, leads, starts, finishes}
 use Rattle.theorems.proofs.Leading.{Leads, IsLed}
-use Rattle.theorems.proofs.Rhombi.{board_track}
+use Rattle.theorems.proofs.RhombusWays.{board_track}
 
 -- Two ways to choose are one.
 pub pick_if : {A : Type 0} (c : Bool) (a b : A) → pick c a b ≡ cond c a b

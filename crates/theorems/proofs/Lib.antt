@@ -2,7 +2,7 @@ pub mod Numbers
 pub mod Stones
 pub mod Ways
 pub mod Leading
-pub mod Rhombi
+pub mod RhombusWays
 pub mod BoardWays
 pub mod Crossing
 pub mod NeverBoth

@@ -6,7 +6,7 @@ use Rattle.std.proofs.lemmas.Bool.{cases_eq}
 use Rattle.hexboard.specs.Board.{empties, other}
 use Rattle.hexboard.specs.Laying.{Rules, HasWon, CanForce, has, mine, theirs, IsPosition}
 use Rattle.hexboard.proofs.Boards.{other_side, empties_set}
-use Rattle.theorems.specs.Pairs.{IsPairing, HasOneOfEach, HasOneOrNone, IsLater, IsEnough, PairsCanForce, WinsAnswering, won, answers, IsAnswered, AnsweringWins}
+use Rattle.theorems.specs.Pairs.{IsPairing, HasOneOfEach, HasOneOrNone, IsLater, IsEnough, WinsAnswering, won, answers, IsAnswered}
 use Rattle.theorems.proofs.Outcome.{set_position}
 use Rattle.theorems.proofs.Stones.{Side, EmptyIn, empty_counts, empty_or_full}
 
@@ -241,11 +241,13 @@ module _ {g : Rules} {s : ℕ} {partner : ℕ → ℕ} (side : Side s) (pairs : 
   answers_within (suc k) b few p a enough = one_answer b p a enough (λ c less. answers_within k c (omega arith))
 
 -- So from every such position, whoever is to move.
-pub pairs_can_force : {g : Rules} → PairsCanForce g
-pairs_can_force s t partner b side turn p pairs held enough = can_from side pairs b p held enough t turn
+pub pairs_can_force : (g : Rules) (s t : ℕ) (partner : ℕ → ℕ) (b : List ℕ) → Side s → Side t → IsPosition g b → IsPairing g.count partner →
+    HasOneOrNone s partner b → IsEnough g s partner b → CanForce g s b t
+pairs_can_force g s t partner b side turn p pairs held enough = can_from side pairs b p held enough t turn
 
-pub answering_wins : {g : Rules} → AnsweringWins g
-answering_wins s partner b side p pairs a enough = answers_within side pairs (empties b + 1) b (omega arith) p a enough
+pub answering_wins : (g : Rules) (s : ℕ) (partner : ℕ → ℕ) (b : List ℕ) → Side s → IsPosition g b → IsPairing g.count partner →
+    IsAnswered s partner b → IsEnough g s partner b → WinsAnswering g s partner b
+answering_wins g s partner b side p pairs a enough = answers_within side pairs (empties b + 1) b (omega arith) p a enough
 
 -- To win by answering is one way to force it, with the other to move.
 pub answering_can_force : {g : Rules} {s : ℕ} {answer : ℕ → ℕ} {b : List ℕ} → WinsAnswering g s answer b → CanForce g s b (other s)

@@ -5,7 +5,7 @@ use Rattle.std.proofs.lemmas.Bool.Decides.{nat_tests}
 use Rattle.std.proofs.lemmas.Nat.{div_below, mod_below, mul-add-lt, div-mul-add, mod-mul-add, div-add-mod'}
 use Rattle.theorems.specs.Pairs.{IsPairing}
 use Rattle.theorems.specs.Shorter.{Place, flip, across_diagonal, partner_place, place_of, cell_at, partner, PartnersPairOff}
-use Rattle.theorems.proofs.Rhombi.{some_width}
+use Rattle.theorems.proofs.RhombusWays.{some_width}
 
 -- A place is told by its row and column.
 pub same_place : (p q : Place) → p.row ≡ q.row → p.column ≡ q.column → p ≡ q

@@ -15,7 +15,7 @@ use Rattle.theorems.specs.Shorter as shorter
 use Rattle.theorems.proofs.Cells.{Cell, Near, along}
 use Rattle.theorems.proofs.Line.{On, Led, first, more, OnBoard, Across}
 use Rattle.theorems.proofs.NeverNeither.{number, number_row, number_column, colour, across_way}
-use Rattle.theorems.proofs.Rhombi.{from_places}
+use Rattle.theorems.proofs.RhombusWays.{from_places}
 use Rattle.theorems.proofs.Diagonal.{Above, mate, one_crosses}
 use Rattle.theorems.proofs.Partners.{above_mate, wide_place, tall_place, partner_at, paired_wide, paired_tall, partners_pair_off, same_place}
 use Rattle.theorems.proofs.Pairing.{pairs_can_force, answering_wins}
@@ -167,7 +167,7 @@ partners_are_enough w t b hw ht n c p none later held = go (wide_or_tall w t n)
 
 pub partners_can_force : PartnersCanForce
 partners_can_force w t s b hw ht n turn p held =
-    pairs_can_force (shorter_side w t) s (partner w t) b (is_side w t) turn p (partners_pair_off w t) held (partners_are_enough w t b hw ht n)
+    pairs_can_force (shape_rules (rhombus w t)) (shorter_side w t) s (partner w t) b (is_side w t) turn p (partners_pair_off w t) held (partners_are_enough w t b hw ht n)
 
 -- On the empty board both cells of each pair are empty.
 pub empty_position : (w t : ℕ) → IsPosition (shape_rules (rhombus w t)) (replicate (w * t) 0)
@@ -183,10 +183,21 @@ shorter_can_force w t s hw ht n turn =
     let can = partners_can_force w t s (replicate (w * t) 0) hw ht n turn (empty_position w t) (empty_pairs w t (shorter_side w t)) in
     (can, not_both_forced (rhombi_lawful w t hw ht) can (other (shorter_side w t)) (against_other (shorter_side w t) (is_side w t)) (empty_position w t))
 
+-- Said by the measures: wider than tall, side 1 can force it, and taller than wide, side 2.
+pub wide_can_force : (w t s : ℕ) → 0 < t → t < w → Side s → CanForce (shape_rules (rhombus w t)) 1 (replicate (w * t) 0) s
+wide_can_force w t s ht h turn =
+    subst (λ r. CanForce (shape_rules (rhombus w t)) r (replicate (w * t) 0) s) (side_wide w t h)
+    (shorter_can_force w t s (omega arith) ht (omega arith) turn).0
+
+pub tall_can_force : (w t s : ℕ) → 0 < w → w < t → Side s → CanForce (shape_rules (rhombus w t)) 2 (replicate (w * t) 0) s
+tall_can_force w t s hw h turn =
+    subst (λ r. CanForce (shape_rules (rhombus w t)) r (replicate (w * t) 0) s) (side_tall w t h)
+    (shorter_can_force w t s hw (omega arith) (omega arith) turn).0
+
 -- Where the measures differ by one, each cell is in a pair: so each move can be answered on its partner.
 pub partners_answer : PartnersAnswer
 partners_answer w t hw ht by_one =
-    answering_wins (shorter_side w t) (partner w t) (replicate (w * t) 0) (is_side w t) (empty_position w t) (partners_pair_off w t) begun
+    answering_wins (shape_rules (rhombus w t)) (shorter_side w t) (partner w t) (replicate (w * t) 0) (is_side w t) (empty_position w t) (partners_pair_off w t) begun
     (partners_are_enough w t (replicate (w * t) 0) hw ht (omega arith))
   where
     paired : (i : ℕ) → i < w * t → partner w t i ≢ i

@@ -13,7 +13,7 @@ use Rattle.hexboard.proofs.Boards.{good_at}
 use Rattle.theorems.proofs.NeverBoth.{never_both}
 use Rattle.theorems.proofs.NeverNeither.{never_neither_lem}
 use Rattle.theorems.proofs.Leading.{carried}
-use Rattle.theorems.proofs.Rhombi.{board_track, track_stays}
+use Rattle.theorems.proofs.RhombusWays.{board_track, track_stays}
 use Rattle.theorems.proofs.BoardWays.{of_board, to_board}
 
 -- What can be forced on a board can be forced in the game,

@@ -9,7 +9,7 @@ use Rattle.hexboard.specs.Laying.{opposite_stone, IsPosition, Renamed, Exchanges
 use Rattle.hexboard.specs.Shapes.{Shape, next_to, at_first, at_last, shape_rules, starts, finishes, rhombus, turned}
 use Rattle.theorems.proofs.Stones.{Side}
 use Rattle.theorems.proofs.Leading.{Carries, carried}
-use Rattle.theorems.proofs.Rhombi.{shape_track, board_track, by_places, from_places, some_width, stone_parts, stone_from, track_stays}
+use Rattle.theorems.proofs.RhombusWays.{shape_track, board_track, by_places, from_places, some_width, stone_parts, stone_from, track_stays}
 use Rattle.theorems.proofs.NeverBoth.{never_both_on}
 use Rattle.theorems.proofs.NeverNeither.{one_leads}
 use Rattle.theorems.proofs.Renaming.{opposite_side}

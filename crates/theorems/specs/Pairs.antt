@@ -34,13 +34,6 @@ IsEnough g s partner b =
     (c : List ℕ) → IsPosition g c → empties c ≡ 0 → IsLater b c →
     HasOneOfEach s partner c → HasWon g s c
 
--- A side that has one cell of each pair, where not both are empty, can force that it wins, whoever is
--- to move, if one cell of each pair is enough.
-abbrev pub PairsCanForce : Rules → Type 0
-PairsCanForce g =
-    (s t : ℕ) (partner : ℕ → ℕ) (b : List ℕ) → IsSide s → IsSide t → IsPosition g b →
-    IsPairing g.count partner → HasOneOrNone s partner b → IsEnough g s partner b → CanForce g s b t
-
 -- WinsAnswering g s answer cells: with the other side to move, side s wins by answering each move of
 -- the other on the cell that `answer` gives for it. A value of it says that the answer is always an
 -- empty cell, and that side s has won when no cell is left.
@@ -61,15 +54,3 @@ IsAnswered s partner cells =
     × (((slice_index cells i ≡ 0) × (slice_index cells (partner i) ≡ 0))
     ⊎ (((slice_index cells i ≡ s) ⊎ (slice_index cells (partner i) ≡ s))
     × (slice_index cells i ≢ 0) × (slice_index cells (partner i) ≢ 0)))
-
--- If each move so far has been answered in its pair, side s wins by answering in pairs to the end.
-abbrev pub AnsweringWins : Rules → Type 0
-AnsweringWins g =
-    (s : ℕ) (partner : ℕ → ℕ) (b : List ℕ) → IsSide s → IsPosition g b →
-    IsPairing g.count partner → IsAnswered s partner b → IsEnough g s partner b →
-    WinsAnswering g s partner b
-
--- Who wins by answering can force that it wins, with the other to move.
-abbrev pub AnsweringCanForce : Rules → Type 0
-AnsweringCanForce g =
-    (s : ℕ) (answer : ℕ → ℕ) (b : List ℕ) → WinsAnswering g s answer b → CanForce g s b (other s)

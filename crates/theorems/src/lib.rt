@@ -1,10 +1,13 @@
 // The theorems for boards of every size, each on the contract of a function: the statement, and what
 // follows from it for somebody who plays. The functions have nothing to do; that they are proved is
-// what they are for. `laying` has the laws of forcing for any game of laying stones, `worked` games on a
+// what they are for. `laying` has the laws of forcing for any game of laying stones, `pairs` those of
+// answering in pairs, `rhombi` what holds of boards that need not be square, and `worked` games on a
 // small board, answer by answer.
 #![tactic(auto)]
 
 mod laying;
+mod pairs;
+mod rhombi;
 mod worked;
 
 ghost use Rattle.std.specs.Prelude.{◌≡◌, ℕ, ◌<◌, true, ◌⊎◌, List, map};
@@ -15,6 +18,11 @@ ghost use Rattle.hexboard.specs.Promise.{NeverBoth, NeverNeither, FirstWins, One
 
 pub use laying::{
     better_is_no_loss, mover_can_force, one_can_force, renamed_alike, squares_are_lawful,
+};
+pub use pairs::answering_in_pairs;
+pub use rhombi::{
+    first_wins_exactly_on_squares, partners_pair_off, rhombi_are_lawful, shorter_way_wins,
+    squares_are_rhombi,
 };
 pub use worked::{
     nobody_has_connected, rules_settle, search_decides, side_one_connects_after_two_taken_back,
