@@ -1,9 +1,11 @@
 -- What is answered of a position with few empty cells, and when it is right. Definitions only.
-use Rattle.std.specs.Prelude.{◌≡◌, ℕ, ◌<◌, List, length, nat_lt}
+use Rattle.std.specs.Prelude.{◌≡◌, ℕ, ◌<◌, List, length, drop, nat_lt}
+use Rattle.std.specs.Int.{div_ceil}
 use Rattle.hexboard.specs.Board.{pick, Board, at, empties, put, other}
 use Rattle.hexboard.specs.Games.{Forces}
 use Rattle.groups.specs.Meaning.{Open}
 use Rattle.groups.specs.Stones.{Placement, board_of}
+use Rattle.ranking.specs.Positions.{total}
 use Rattle.endgame.specs.Prepared.{LeadTo}
 use Rattle.endgame.specs.declared.verdict.Verdict.{Verdict}
 use Rattle.endgame.specs.declared.verdict.Verdict.TheVariants.{Yes, No, TooMany}
@@ -12,6 +14,10 @@ use Rattle.endgame.specs.declared.verdict.Verdict.TheVariants.{Yes, No, TooMany}
 -- that have no more
 abbrev pub bytes_of_table : ℕ → ℕ
 bytes_of_table n = pick (nat_lt n 4) 1512 2541445
+
+-- Behind the bytes that the positions of an end with e cells take, four to a byte, table u is table t.
+abbrev pub IsSameBehind : ℕ → List ℕ → List ℕ → Type 0
+IsSameBehind e t u = drop (div_ceil (total e) 4) u ≡ drop (div_ceil (total e) 4) t
 
 -- The answer is right on board b, with side s to move: s can force that it connects, and still can after a move to an empty cell;
 -- or it cannot; or more than 16 cells are empty.

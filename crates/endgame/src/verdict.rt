@@ -2,7 +2,7 @@
 ghost use Rattle.std.specs.Prelude.{◌≡◌, ◌<◌, ◌≤◌, length};
 ghost use Rattle.hexboard.specs.Board.{empties};
 ghost use Rattle.hexboard.specs.Sides.{number};
-ghost use Rattle.endgame.specs.Verdicts.{bytes_of_table, Judges};
+ghost use Rattle.endgame.specs.Verdicts.{bytes_of_table, IsSameBehind, Judges};
 ghost use Rattle.endgame.specs.Efforts.{nothing_done};
 ghost use Rattle.endgame.specs.Searches.{IsOnce};
 
@@ -27,12 +27,14 @@ pub fn table_bytes(size: Size) -> usize
 
 /// Whether a side to move can force that it connects, in a position where nobody has connected; and what was done to find out. More than 16
 /// empty cells are too many: then nothing is done. The table may hold anything before; afterwards it has the winners of the positions that
-/// were searched.
+/// were searched, and behind the bytes that positions of this end take it is as it was.
 pub fn can_force(position: &Grouped, side: Side, table: &mut [u8]) -> (Verdict, Effort)
     requires { bytes_of_table position.now.size.n ≤ length table.old }
     ensures right { Judges position.now.size.n (number side)
         position.now.stones.now position.now.parents.now position.now.borders.now result.0 }
-    ensures many { 16 < empties position.now.stones.now → result ≡ (Verdict.TooMany, nothing_done) }
+    ensures many { 16 < empties position.now.stones.now →
+        (result ≡ (Verdict.TooMany, nothing_done)) × (table.new ≡ table.old) }
+    ensures behind { IsSameBehind (empties position.now.stones.now) table.old table.new }
     ensures once { empties position.now.stones.now ≤ 16 →
         IsOnce (empties position.now.stones.now) result.1 table.new }
 {

@@ -60,3 +60,9 @@ EachBelow = (e mine theirs : ℕ) → Position e mine theirs → place e mine th
 
 abbrev pub NoneShared : Type 0
 NoneShared = (e x y z w : ℕ) → Position e x y → Position e z w → place e x y ≡ place e z w → (x ≡ z) × (y ≡ w)
+
+-- and its place tells how many cells its stones leave free
+abbrev pub TellsFree : Type 0
+TellsFree =
+    (e mine theirs : ℕ) → Position e mine theirs →
+    free_at e (place e mine theirs) + (count_ones mine + count_ones theirs) ≡ e

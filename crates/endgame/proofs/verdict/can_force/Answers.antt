@@ -1,8 +1,11 @@
-use Rattle.std.proofs.Common.{◌-◌, ◌^◌, ◌≤◌, Some, length, drop, ◌++◌, get_or, sym, ap, subst, arith}
+use Rattle.std.proofs.Common.{◌≡◌, ◌-◌, ◌^◌, ◌≤◌, Some, length, drop, ◌++◌, get_or, sym, ap, subst, arith}
 use Rattle.std.proofs.lemmas.List.{length-take-le}
+use Rattle.std.proofs.lemmas.Slice.{drop-append-drop}
 use Rattle.hexboard.proofs.Boards.{side_number, empties_few}
 use Rattle.hexboard.specs.Board.{other, empties}
 use Rattle.hexboard.specs.Sides.{number}
+use Rattle.std.specs.Int.{div_ceil}
+use Rattle.ranking.specs.Positions.{total}
 use Rattle.ranking.proofs.Bits.{cell_below}
 use Rattle.endgame.specs.Prepared.{ArePrepared}
 use Rattle.endgame.specs.declared.search.Found.{Found}
@@ -10,7 +13,7 @@ use Rattle.endgame.specs.declared.search.Found.TheVariants.{Won, Lost}
 use Rattle.endgame.specs.Searched.{TellsWinner}
 use Rattle.endgame.specs.Searches.{IsOnce}
 use Rattle.endgame.proofs.Once.{once_front}
-use Rattle.endgame.specs.Verdicts.{Judges}
+use Rattle.endgame.specs.Verdicts.{IsSameBehind, Judges}
 use Rattle.endgame.specs.declared.verdict.Verdict.TheVariants.{Yes}
 use Rattle.endgame.proofs.Starting.{node_first, enough}
 use Rattle.endgame.proofs.Judging.{judged_no, judged_yes}
@@ -82,3 +85,18 @@ returns-in-Lost-clause-once c few = once (goal.at.returns-in-Lost-clause-once c)
 
 pub returns-in-Won-default-Some-clause-once : goal.returns-in-Won-default-Some-clause-once
 returns-in-Won-default-Some-clause-once c few = once (goal.at.returns-in-Won-default-Some-clause-once c).After-look_through (fits (goal.at.returns-in-Won-default-Some-clause-once c).After-div_ceil-bytes)
+
+-- no more of the table than the positions take was lent
+behind : (c : After-look_through) (fit : c.div_ceil-bytes.result ≤ length c.args.table.now) → IsSameBehind (empties c.args.position.now.stones.now) c.args.table.now (c.look_through.new.table ++ drop c.div_ceil-bytes.result c.args.table.now)
+behind c fit =
+    let part = length-take-le c.div_ceil-bytes.result c.args.table.now fit in
+    let cells : c.new-search.result.ranking.cells ≡ empties c.args.position.now.stones.now = omega (arith, c.in-Some.ensures.many, c.len.ensures.value, c.new-search.ensures.cells) in
+    let bytes = ap (λ e. div_ceil (total e) 4) cells in
+    drop-append-drop c.div_ceil-bytes.result c.args.table.now c.look_through.new.table _
+    (omega (arith, bytes, ap (λ places. div_ceil places 4) c.places.ensures.value, c.div_ceil-bytes.ensures)) (omega (arith, part, c.look_through.auto.table))
+
+pub returns-in-Lost-clause-behind : goal.returns-in-Lost-clause-behind
+returns-in-Lost-clause-behind c = behind (goal.at.returns-in-Lost-clause-behind c).After-look_through (fits (goal.at.returns-in-Lost-clause-behind c).After-div_ceil-bytes)
+
+pub returns-in-Won-default-Some-clause-behind : goal.returns-in-Won-default-Some-clause-behind
+returns-in-Won-default-Some-clause-behind c = behind (goal.at.returns-in-Won-default-Some-clause-behind c).After-look_through (fits (goal.at.returns-in-Won-default-Some-clause-behind c).After-div_ceil-bytes)
