@@ -3,9 +3,11 @@ use Rattle.std.proofs.Common.{◌≡◌, ℕ, ◌+◌, ◌-◌, ◌^◌, min, Li
 use Rattle.std.specs.Io.KnownBytes.{Appends, Keeps}
 use Rattle.hexboard.specs.Games as games
 use Rattle.driver.specs.Drawn.{IsShortestWay, Draws}
-use Rattle.driver.specs.Exchanged.{Exchange}
+use Rattle.driver.specs.Exchanged.{Exchange, Exchanges, ServedAll}
+use Rattle.driver.specs.Lines.{lines_of}
+use Rattle.driver.specs.declared.limits.Limits.{Limits}
 use Rattle.driver.specs.Leading.{IsRefusal, LeadsOn}
-use Rattle.driver.specs.Printed.{Written, none, one, DrawsGame, ShowsPosition, PrintsAnswer, PrintsRefusal, counted}
+use Rattle.driver.specs.Printed.{Written, none, one, DrawsGame, ShowsPosition, PrintsAnswer, PrintsPosition, PrintsRefusal, AnswersAll, counted}
 use Rattle.driver.specs.Served.{reply_line}
 
 -- one exchange more at the end
@@ -24,15 +26,9 @@ pub more_made : {X E P Q : Type 0} (r : Result X E) → (P → Q) → OnOk r P �
 more_made (Ok x) f p = f p
 more_made (Err e) f p = tt
 
--- no position is drawn, where none is asked for,
-pub shows_none : (positions : Bool) (x : Exchange) → positions ≡ false → ShowsPosition positions x []
-shows_none true x e = absurd cc
-shows_none false x e = refl
-
--- or the line leads to none,
-pub leads_nowhere : (positions : Bool) (x : Exchange) → (LeadsOn x.asked x.reply → ⊥) → ShowsPosition positions x []
-leads_nowhere true x no' = (λ leads. absurd (no' leads), λ _. refl)
-leads_nowhere false x no' = refl
+-- no position is drawn where the line leads to none,
+pub leads_nowhere : (x : Exchange) → (LeadsOn x.asked x.reply → ⊥) → ShowsPosition x []
+leads_nowhere x no' = (λ leads. absurd (no' leads), λ _. refl)
 
 -- or no board is open
 pub draws_none : (o : Option games.Game) (P : games.Game → Type 0) → o ≡ None → IfSome o P
@@ -44,22 +40,30 @@ pub draws : (o k : Option games.Game) (cells drawing : List ℕ) → k ≡ o →
 draws None k cells drawing same way drawn = tt
 draws (Some g) k cells drawing same way drawn = (cells, way, subst (λ j. IfSome j (λ g. Draws g cells drawing)) same drawn)
 
-pub shows_one : (positions : Bool) (x : Exchange) (drawing : List ℕ) → positions ≡ true → LeadsOn x.asked x.reply → DrawsGame x drawing → ShowsPosition positions x drawing
-shows_one true x drawing e leads drawn = (λ _. drawn, λ no'. absurd (no' leads))
-shows_one false x drawing e leads drawn = absurd cc
+pub shows_one : (x : Exchange) (drawing : List ℕ) → LeadsOn x.asked x.reply → DrawsGame x drawing → ShowsPosition x drawing
+shows_one x drawing leads drawn = (λ _. drawn, λ no'. absurd (no' leads))
 
--- an answer more is printed, and a position behind it
-pub printed_more : (a b c d : Option (List ℕ)) (positions : Bool) (all : List Exchange) (x : Exchange) (line drawing : List ℕ) → Appends a b (line ++ codes "\n") → Appends b c drawing → Keeps c d →
-    line ≡ reply_line x.reply → ShowsPosition positions x drawing → IsSomeAnd a (Written (PrintsAnswer positions) 1 all) → IsSomeAnd d (Written (PrintsAnswer positions) 1 (all ++ x ∷ []))
-printed_more (Some xs) (Some ys) (Some zs) (Some ws) positions all x line drawing first second kept is shows written =
+-- an answer more is printed,
+pub answer_more : (a b d : Option (List ℕ)) (all : List Exchange) (x : Exchange) (line : List ℕ) → Appends a b (line ++ codes "\n") → Keeps b d →
+    line ≡ reply_line x.reply → IsSomeAnd a (Written PrintsAnswer 1 all) → IsSomeAnd d (Written PrintsAnswer 1 (all ++ x ∷ []))
+answer_more (Some xs) (Some ys) (Some zs) all x line first kept is written =
+    subst (Written PrintsAnswer 1 (all ++ x ∷ [])) (sym (kept ∙ first ∙ ap (λ l. xs ++ (l ++ codes "\n")) is)) (written_more x (reply_line x.reply ++ codes "\n") written refl)
+answer_more (Some xs) (Some ys) None all x line first kept is written = absurd kept
+answer_more (Some xs) None d all x line first kept is written = absurd first
+answer_more None b d all x line first kept is written = absurd written
+
+-- and a position behind it
+pub printed_more : (a b c d : Option (List ℕ)) (all : List Exchange) (x : Exchange) (line drawing : List ℕ) → Appends a b (line ++ codes "\n") → Appends b c drawing → Keeps c d →
+    line ≡ reply_line x.reply → ShowsPosition x drawing → IsSomeAnd a (Written PrintsPosition 1 all) → IsSomeAnd d (Written PrintsPosition 1 (all ++ x ∷ []))
+printed_more (Some xs) (Some ys) (Some zs) (Some ws) all x line drawing first second kept is shows written =
     let added = reply_line x.reply ++ codes "\n" ++ drawing in
     let bytes : ws ≡ xs ++ added =
     kept ∙ second ∙ ap (λ l. l ++ drawing) (first ∙ ap (λ l. xs ++ (l ++ codes "\n")) is) ∙ append_assoc xs (reply_line x.reply ++ codes "\n") drawing in
-    subst (Written (PrintsAnswer positions) 1 (all ++ x ∷ [])) (sym bytes) (written_more x added written (drawing, shows, refl))
-printed_more (Some xs) (Some ys) (Some zs) None positions all x line drawing first second kept is shows written = absurd kept
-printed_more (Some xs) (Some ys) None d positions all x line drawing first second kept is shows written = absurd second
-printed_more (Some xs) None c d positions all x line drawing first second kept is shows written = absurd first
-printed_more None b c d positions all x line drawing first second kept is shows written = absurd written
+    subst (Written PrintsPosition 1 (all ++ x ∷ [])) (sym bytes) (written_more x added written (drawing, shows, refl))
+printed_more (Some xs) (Some ys) (Some zs) None all x line drawing first second kept is shows written = absurd kept
+printed_more (Some xs) (Some ys) None d all x line drawing first second kept is shows written = absurd second
+printed_more (Some xs) None c d all x line drawing first second kept is shows written = absurd first
+printed_more None b c d all x line drawing first second kept is shows written = absurd written
 
 -- a refusal more is printed,
 pub refusal_more : (a b : Option (List ℕ)) (all : List Exchange) (x : Exchange) (number : ℕ) (told line : List ℕ) → Appends a b line → number ≡ counted (1 + length all) → told ≡ reply_line x.reply →
@@ -83,3 +87,16 @@ counted_more all x lines is = omega (arith, is, length-append all (x ∷ []))
 
 pub number_is : (all : List Exchange) (lines : ℕ) → lines ≡ counted (length all) → min (lines + 1) (2 ^ 64 - 1) ≡ counted (1 + length all)
 number_is all lines is = omega (arith, is)
+
+-- what was heard of a whole input was written from nothing on
+pub answers_all : (limits limits' : Limits) (input : List ℕ) (g h : Option games.Game) (old new : Option (List ℕ)) (out : List ℕ) →
+    ServedAll limits' (Some input) g h (λ all. IsSomeAnd old (Written PrintsAnswer 1 all)) (λ all. IsSomeAnd new (Written PrintsAnswer 1 all)) →
+    limits' ≡ limits → g ≡ None → old ≡ Some [] → new ≡ Some out → AnswersAll limits input out
+answers_all limits limits' input g h old new out all same closed empty is =
+    let nothing : IsSomeAnd old (Written PrintsAnswer 1 []) = subst (λ o. IsSomeAnd o (Written PrintsAnswer 1 [])) (sym empty) none in (
+      all.exchanges,
+      h,
+      subst (λ l. Exchanges l None (lines_of input) all.exchanges h) same
+        (subst (λ k. Exchanges limits' k (lines_of input) all.exchanges h) closed (subst (λ ls. Exchanges limits' g ls all.exchanges h) all.all all.served)),
+      subst (λ o. IsSomeAnd o (Written PrintsAnswer 1 all.exchanges)) is (all.heard [] nothing),
+    )

@@ -1,7 +1,7 @@
 // Listeners that write what they hear.
 ghost use Rattle.std.specs.Prelude.{◌≡◌, ℕ, List, OnOk, IsSomeAnd, length, ⊤};
 ghost use Rattle.std.specs.Io.KnownBytes.{Appends};
-ghost use Rattle.driver.specs.Printed.{Written, ShowsPosition, PrintsAnswer, PrintsRefusal, counted};
+ghost use Rattle.driver.specs.Printed.{Written, PrintsAnswer, ShowsPosition, PrintsPosition, PrintsRefusal, counted};
 ghost use Rattle.driver.specs.Tables.{game_on, limits_of, exchange_at};
 
 use crate::listener::Listener;
@@ -10,33 +10,61 @@ use crate::told::Served;
 use std::io;
 use std::io::Write;
 
-/// Writes each answer, a line each, as soon as it is there; and if that is asked for, the position after each line that leads to one.
+/// Writes each answer, a line each, as soon as it is there.
 #[derive(Drop)]
 pub struct Answers<W> {
     out: W,
-    positions: bool,
 }
 
 impl<W: Write> Answers<W> {
-    pub fn new(out: W, positions: bool) -> Answers<W>
-        ensures out { result.out ≡ out }
-        ensures positions { result.positions ≡ positions }
+    pub fn new(out: W) -> Answers<W>
+        ensures { result.out ≡ out }
     {
-        Answers { out, positions }
+        Answers { out }
     }
 
-    // Writes the position that the line leads to, if positions are asked for.
+    /// What was written to.
+    pub fn into_inner(self) -> W
+        ensures { result ≡ self.out }
+    {
+        self.out
+    }
+}
+
+impl<W: Write> Listener for Answers<W> {
+    ghost heard = { λ s all. IsSomeAnd (W.contents s.out) (Written PrintsAnswer 1 all) };
+
+    // Any write can fail.
+    ghost fails = { λ _ _. ⊤ };
+
+    fn hear(&mut self, served: Served<u16>, table: &mut Table) -> io::Result<()> {
+        let told = table.told(served.told);
+        writeln!(self.out, "{told}")?;
+        self.out.flush()
+    }
+}
+
+/// Writes each answer, and behind it the position, if the line leads to one.
+#[derive(Drop)]
+pub struct Positions<W> {
+    out: W,
+}
+
+impl<W: Write> Positions<W> {
+    pub fn new(out: W) -> Positions<W>
+        ensures { result.out ≡ out }
+    {
+        Positions { out }
+    }
+
+    // Writes the position, if the line leads to one.
     fn write_position(&mut self, served: Served<u16>, table: &mut Table) -> io::Result<()>
         ensures written { OnOk result ((drawing : List ℕ)
-            × ShowsPosition self.old.positions (exchange_at table.old served) drawing
+            × ShowsPosition (exchange_at table.old served) drawing
             × Appends (W.contents self.old.out) (W.contents self.new.out) drawing) }
-        ensures positions { self.new.positions ≡ self.old.positions }
         ensures kept { game_on table.new ≡ game_on table.old }
         ensures limits { limits_of table.new ≡ limits_of table.old }
     {
-        if !self.positions {
-            return Ok(());
-        }
         if !served.leads_on() {
             return Ok(());
         }
@@ -55,10 +83,9 @@ impl<W: Write> Answers<W> {
     }
 }
 
-impl<W: Write> Listener for Answers<W> {
-    ghost heard = { λ s all. IsSomeAnd (W.contents s.out) (Written (PrintsAnswer s.positions) 1 all) };
+impl<W: Write> Listener for Positions<W> {
+    ghost heard = { λ s all. IsSomeAnd (W.contents s.out) (Written PrintsPosition 1 all) };
 
-    // Any write can fail.
     ghost fails = { λ _ _. ⊤ };
 
     fn hear(&mut self, served: Served<u16>, table: &mut Table) -> io::Result<()> {
@@ -82,6 +109,13 @@ impl<W: Write> Refusals<W> {
         ensures none { result.lines ≡ 0 }
     {
         Refusals { out, lines: 0 }
+    }
+
+    /// What was written to.
+    pub fn into_inner(self) -> W
+        ensures { result ≡ self.out }
+    {
+        self.out
     }
 }
 

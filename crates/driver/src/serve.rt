@@ -1,12 +1,16 @@
 // Serves whole inputs.
-ghost use Rattle.std.specs.Prelude.{◌≡◌, MatchResult};
+ghost use Rattle.std.specs.Prelude.{◌≡◌, IfOk, MatchResult};
 ghost use Rattle.driver.specs.Exchanged.{ServedAll, CutOff};
+ghost use Rattle.driver.specs.Printed.{AnswersAll};
 ghost use Rattle.driver.specs.Tables.{game_on, limits_of};
 
 use crate::input::Input;
+use crate::limits::Limits;
 use crate::line::{LineBuffer, next_line};
 use crate::listener::Listener;
+use crate::printing::Answers;
 use crate::table::Table;
+use std::alloc::Global;
 use std::io;
 use std::io::ErrorKind;
 
@@ -34,4 +38,15 @@ pub fn serve_lines<R: Input, L: Listener>(
         listener.hear(served, table)?;
     }
     Err(io::Error::from(ErrorKind::FileTooLarge))
+}
+
+/// Answers each line of these bytes, as a program does that draws no positions: what it writes.
+pub fn answer_bytes(heap: Global, limits: Limits, input: &[u8]) -> io::Result<Vec<u8>>
+    ensures { IfOk result (λ out. AnswersAll limits input.now out.items) }
+{
+    let mut table = Table::new(heap, limits)?;
+    let mut answers = Answers::new(Vec::new(heap));
+    let mut left = input;
+    serve_lines(&mut table, &mut left, &mut answers)?;
+    Ok(answers.into_inner())
 }

@@ -7,7 +7,7 @@ ghost use Rattle.std.specs.Prelude.{◌≡◌};
 
 use anyhow::anyhow;
 use arguments::{Asked, Flag, Help, read_arguments};
-use driver::{Answers, Limits, Refusals, Table, serve_lines};
+use driver::{Answers, Limits, Listener, Positions, Refusals, Table, serve_lines};
 use std::env;
 use std::io::{BufReader, BufWriter};
 use timed::Timed;
@@ -51,16 +51,32 @@ pub fn answer_input(rt: &HostRuntime, program: Program) -> anyhow::Result<()> {
     let Some(Asked { show, times }) = program.asked(rt)? else {
         return Ok(rt.print(&program.told())?);
     };
-    let heap = rt.alloc();
-    let mut table = Table::new(heap, program.limits)?;
-    let mut input = BufReader::new(heap, rt.stdin())?;
-    let mut answers = Answers::new(BufWriter::new(heap, rt.stdout())?, show);
-    if !times {
-        return Ok(serve_lines(&mut table, &mut input, &mut answers)?);
+    let out = BufWriter::new(rt.alloc(), rt.stdout())?;
+    if show {
+        listen(rt, program.limits, Positions::new(out), times)
+    } else {
+        listen(rt, program.limits, Answers::new(out), times)
     }
-    let mut timed = Timed::new(rt, answers);
-    serve_lines(&mut table, &mut input, &mut timed)?;
-    Ok(rt.eprint(&timed.times())?)
+}
+
+// Serves standard input, and tells how long that took, if times are asked for.
+fn listen<L: Listener + Drop>(
+    rt: &HostRuntime,
+    limits: Limits,
+    listener: L,
+    times: bool,
+) -> anyhow::Result<()> {
+    let heap = rt.alloc();
+    let mut table = Table::new(heap, limits)?;
+    let mut input = BufReader::new(heap, rt.stdin())?;
+    if times {
+        let mut timed = Timed::new(rt, listener);
+        serve_lines(&mut table, &mut input, &mut timed)?;
+        Ok(rt.eprint(&timed.times())?)
+    } else {
+        let mut listener = listener;
+        Ok(serve_lines(&mut table, &mut input, &mut listener)?)
+    }
 }
 
 /// Serves each line of standard input, tells what is refused on standard error, and at the end prints the position on standard output.
