@@ -25,6 +25,7 @@ board_of n ms = stones.board_of n (stones_of ms)
 abbrev pub forest_of : ℕ → List ℕ → Forest
 forest_of n ms = stones.forest_of n (stones_of ms)
 
--- a legal list of moves: each goes to an empty cell. Whether somebody has connected before the last is not asked
+-- a legal list of moves: each goes to an empty cell. Whether somebody has connected before the last
+-- is not asked
 abbrev pub Legal : ℕ → List ℕ → Type 0
 Legal n ms = AreLegal n (stones_of ms)

@@ -1,4 +1,5 @@
--- Boards and groups as functions of a list of stones: stones of either side, in any order, laid one after the other on the empty board.
+-- Boards and groups as functions of a list of stones: stones of either side, in any order, laid one
+-- after the other on the empty board.
 use Rattle.std.specs.Prelude.{◌≡◌, ℕ, zero, suc, ◌*◌, Bool, true, ◌&&◌, ◌||◌, ◌⊎◌, List, [], ◌∷◌, ◌++◌, length, ◌==◌, nat_lt}
 use Rattle.std.specs.List.{fold}
 use Rattle.hexboard.specs.Board.{Board, at, all_cells, empty, put}
@@ -59,8 +60,8 @@ unfoldable pub can_all_lie : Layout → List Placement → Bool
 can_all_lie l [] = true
 can_all_lie l (p ∷ ps) = can_lie l.board p && can_all_lie (with_stone l p) ps
 
--- The stones are of the two sides, and each comes to a cell that is empty then. In which order the sides' stones come is not asked,
--- nor whether a side has connected.
+-- The stones are of the two sides, and each comes to a cell that is empty then. In which order the
+-- sides' stones come is not asked, nor whether a side has connected.
 abbrev pub AreLegal : ℕ → List Placement → Type 0
 AreLegal n ps = can_all_lie (empty_layout n) ps ≡ true
 
@@ -70,4 +71,5 @@ KeepsGroups n ps parents borders = held parents borders ≡ forest_of n ps
 
 -- the cells are those of the board before one more stone is laid, or after it
 abbrev pub IsBoardAround : ℕ → List Placement → Placement → List ℕ → Type 0
-IsBoardAround n ps p cells = (cells ≡ (board_of n ps).cells) ⊎ (cells ≡ (board_of n (ps ++ p ∷ [])).cells)
+IsBoardAround n ps p cells =
+    (cells ≡ (board_of n ps).cells) ⊎ (cells ≡ (board_of n (ps ++ p ∷ [])).cells)

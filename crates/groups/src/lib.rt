@@ -1,4 +1,5 @@
-// Groups of stones that hang together, joined as stones come, in lent memory, with the borders they touch.
+// Groups of stones that hang together, joined as stones come, in lent memory, with the borders they
+// touch.
 #![tactic(auto)]
 
 ghost use Rattle.std.specs.Prelude.{◌≡◌, ℕ, ◌*◌, ◌%◌, [], length, ◌==◌, slice_index, slice_set};
@@ -12,11 +13,12 @@ ghost use Rattle.groups.specs.Meaning.{Together, Joined, KeptOnce, OneMore, OneF
 
 use hexboard::{Neighbours, Side, Size};
 
-/// The groups of a board in lent memory, for stones of either side in any order. Each stone has a parent in its group, a later stone,
-/// or is the group's root: its last stone, which is its own parent. `parents` holds two bytes for each cell, low byte first. `borders`
-/// holds a byte for each cell, whose bits at a root say which borders the group touches: 1 for the first, 2 for the last.
-// Bits, since the bytes of lent memory are fixed. It is passed by value: a proof then knows what its references lead to afterwards,
-// which it does not for a `&mut` of such a struct.
+/// The groups of a board in lent memory, for stones of either side in any order. Each stone has a
+/// parent in its group, a later stone, or is the group's root: its last stone, which is its own
+/// parent. `parents` holds two bytes for each cell, low byte first. `borders` holds a byte for each
+/// cell, whose bits at a root say which borders the group touches: 1 for the first, 2 for the last.
+// Bits, since the bytes of lent memory are fixed. It is passed by value: a proof then knows what
+// its references lead to afterwards, which it does not for a `&mut` of such a struct.
 #[derive(Drop)]
 pub struct Groups<'a> {
     pub parents: &'a mut [u8],
@@ -25,7 +27,8 @@ pub struct Groups<'a> {
 
 impl Groups<'_> {
     /// Makes the memory that of a board without stones.
-    // Cell by cell, as in `lift`: a parent is a number of two bytes, which `set_word` writes by its place.
+    // Cell by cell, as in `lift`: a parent is a number of two bytes, which `set_word` writes by its
+    // place.
     pub fn clear(self, size: Size)
         requires parents_long { length self.parents.now ≡ size.n * size.n * 2 }
         requires borders_long { length self.borders.now ≡ size.n * size.n }
@@ -39,8 +42,8 @@ impl Groups<'_> {
         }
     }
 
-    /// A stone of a side comes to an empty cell, and takes in the groups of its side next to it. `cells` may hold the stone already or
-    /// not.
+    /// A stone of a side comes to an empty cell, and takes in the groups of its side next to it.
+    /// `cells` may hold the stone already or not.
     pub fn place(self, size: Size, cells: &[u8], side: Side, cell: u16)
         ensures value { after self.exit
             ≡ place (laid size.n cells.now) (number side) cell (before self.entry) }
@@ -58,7 +61,8 @@ impl Groups<'_> {
         }
     }
 
-    /// The last stone is taken out: the groups that it took in are apart again, and every byte is as it was before it came.
+    /// The last stone is taken out: the groups that it took in are apart again, and every byte is
+    /// as it was before it came.
     pub fn lift(self, size: Size, cell: u16)
         ensures value { after self.exit ≡ lift (size.n * size.n) cell (before self.entry) }
         ensures back { OneFewer size.n cell (before self.entry) (after self.exit) }
@@ -102,8 +106,8 @@ pub fn root(parents: &[u8], cell: u16) -> u16
     at
 }
 
-/// Whether the group of a root touches both its borders. After a stone on a board where nobody had connected, the byte of that stone
-/// tells whether its side has connected.
+/// Whether the group of a root touches both its borders. After a stone on a board where nobody had
+/// connected, the byte of that stone tells whether its side has connected.
 pub fn touches_both(borders: &[u8], cell: u16) -> bool
     ensures value { result ≡ (slice_index borders.now cell % 4 == 3) }
     ensures joined { Joined }

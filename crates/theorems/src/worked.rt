@@ -1,5 +1,6 @@
-// What the rules settle, the search for a way, and games worked by hand on the board three wide, each the contract of a function. The
-// functions have nothing to do; that they are proved is what they are for.
+// What the rules settle, the search for a way, and games worked by hand on the board three wide,
+// each the contract of a function. The functions have nothing to do; that they are proved is what
+// they are for.
 ghost use Rattle.std.specs.Prelude.{ℕ, ◌≢◌, ◌↔◌, [], ◌∷◌, ◌++◌, map, IsTrue};
 ghost use Rattle.hexboard.specs.Board.{Board, Connects};
 ghost use Rattle.hexboard.specs.Games.{moves, back, who, refused, number, way};
@@ -7,7 +8,8 @@ ghost use Rattle.theorems.specs.Search.{finds_way};
 ghost use Rattle.theorems.specs.Settled.{RulesSettle};
 ghost use Rattle.theorems.specs.Worked.{AreOnlyRight, EndsInShortest};
 
-/// The rules leave no choice of an answer but which way of a side is shown, and what is said of forcing.
+/// The rules leave no choice of an answer but which way of a side is shown, and what is said of
+/// forcing.
 pub fn rules_settle()
     ensures { RulesSettle }
 {}
@@ -17,8 +19,8 @@ pub fn search_decides()
     ensures { (b : Board) (s : ℕ) → s ≢ 0 → (IsTrue (finds_way b s) ↔ Connects b s) }
 {}
 
-/// Seven moves after which nobody has connected: side 1 has no stone in the top row, and side 2's only one in the right column has none
-/// of its own beside it.
+/// Seven moves after which nobody has connected: side 1 has no stone in the top row, and side 2's
+/// only one in the right column has none of its own beside it.
 //
 //     2 . 2
 //      2 1 1
@@ -28,8 +30,9 @@ pub fn nobody_has_connected()
         (map number (0 ∷ 1 ∷ 2 ∷ 3 ∷ 4 ∷ 5 ∷ 6 ∷ 0 ∷ [])) }
 {}
 
-/// Then side 2 connects from the left column to the right column, and no move is made any more. Two moves are taken back, and side 1
-/// moves to that cell itself: it leads from the top row to the bottom row, down and to the left.
+/// Then side 2 connects from the left column to the right column, and no move is made any more. Two
+/// moves are taken back, and side 1 moves to that cell itself: it leads from the top row to the
+/// bottom row, down and to the left.
 //
 //     2 2 2        2 1 2
 //      2 1 1        2 1 .
