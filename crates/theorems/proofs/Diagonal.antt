@@ -1,11 +1,11 @@
 -- Why one cell of each pair is enough: the line between the sides' cells is followed until it leaves the triangle above the rising
 -- diagonal. There a cell that side 1 leads to from the top lies above the partner of one that side 2 leads to from the left, and the
 -- partners of side 2's cells lead side 1 on to the bottom.
-use Rattle.std.proofs.Common.{◌≡◌, ℕ, ◌+◌, ◌-◌, ◌*◌, ◌<◌, ◌≤◌, Bool, true, false, not, ◌⊎◌, refl, ap, ◌∙◌, inl, inr, ⊎_elim, arith}
+use Rattle.std.proofs.Common.{◌≡◌, ℕ, ◌+◌, ◌-◌, ◌<◌, ◌≤◌, Bool, true, false, ◌⊎◌, ap, inl, inr, ⊎_elim, arith}
 use Rattle.std.proofs.lemmas.Bool.{cases_lt}
 use Rattle.theorems.proofs.Numbers.{zero_or_more}
-use Rattle.theorems.proofs.Cells.{Cell, Near, turn_near, ahead, along}
-use Rattle.theorems.proofs.Line.{Place, On, Led, first, more, led_end, OnLine, Leaves, near_one, near_two, leaves, OnBoard, Across}
+use Rattle.theorems.proofs.Cells.{Cell, Near, turn_near, ahead}
+use Rattle.theorems.proofs.Line.{Place, On, Led, first, more, led_end, OnLine, near_one, near_two, leaves, OnBoard, Across}
 
 -- For the line rows and columns count from 1. Above the rising diagonal from the foot of the left column, t rows down, the ring too:
 abbrev pub Above : ℕ → Cell → Type 0

@@ -6,7 +6,7 @@ use Rattle.std.proofs.lemmas.Bool.{cases_eq}
 use Rattle.hexboard.specs.Board.{empties, other}
 use Rattle.hexboard.specs.Laying.{Rules, HasWon, CanForce, has, mine, theirs, IsPosition}
 use Rattle.hexboard.proofs.Boards.{other_side, empties_set}
-use Rattle.theorems.specs.Pairs.{IsPairing, HasOneOfEach, HasOneOrNone, IsLater, IsEnough, WinsAnswering, won, answers, IsAnswered}
+use Rattle.theorems.specs.Pairs.{IsPairing, HasOneOrNone, IsLater, IsEnough, WinsAnswering, won, answers, IsAnswered}
 use Rattle.theorems.proofs.Outcome.{set_position}
 use Rattle.theorems.proofs.Stones.{Side, EmptyIn, empty_counts, empty_or_full}
 
@@ -91,7 +91,6 @@ Within g s partner k =
 
 -- a pairing of a game's cells, and a side
 module _ {g : Rules} {s : ℕ} {partner : ℕ → ℕ} (side : Side s) (pairs : IsPairing g.count partner) where
-
   -- In a full position that has come so, side s has one cell of each pair, and has won.
   full_wins : (b : List ℕ) → IsPosition g b → empties b ≡ 0 → HasOneOrNone s partner b → IsEnough g s partner b → HasWon g s b
   full_wins b p none held enough =
@@ -202,11 +201,11 @@ module _ {g : Rules} {s : ℕ} {partner : ℕ → ℕ} (side : Side s) (pairs : 
       let apart = (a i h).0 in
       let on_partner : partner i < length (set b i (other s)) = rw length-set (omega (arith, p.long, pairs.on i on)) in
       let there : get_or (set (set b i (other s)) (partner i) s) i 0 ≡ other s =
-          get_or-set_other (set b i (other s)) (partner i) i s 0 (λ e. apart (sym e)) ∙ get_or-set_same b i (other s) 0 h in
+      get_or-set_other (set b i (other s)) (partner i) i s 0 (λ e. apart (sym e)) ∙ get_or-set_same b i (other s) 0 h in
       let here : get_or (set (set b i (other s)) (partner i) s) (partner i) 0 ≡ s = get_or-set_same (set b i (other s)) (partner i) s 0 on_partner in (
         (a k on_k).0,
         pair_by_pair pairs (Answered s) (turn_answered s) b (set (set b i (other s)) (partner i) s) i on (unchanged s partner b i)
-        (λ _. inr (inr here, λ e. omega arith, λ e. omega arith)) k (omega (arith, p.long)) (a k on_k).0 (a k on_k).1
+            (λ _. inr (inr here, λ e. omega arith, λ e. omega arith)) k (omega (arith, p.long)) (a k on_k).0 (a k on_k).1,
       )
 
   -- So it goes on to a full position.

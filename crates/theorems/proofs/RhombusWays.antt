@@ -1,20 +1,19 @@
 -- Boards w wide and t tall: their neighbours and borders by row and column, and their ways by these.
-use Rattle.std.proofs.Common.{◌≡◌, ℕ, zero, suc, ◌+◌, ◌*◌, ◌/◌, ◌%◌, ◌<◌, Bool, true, false, cond, eqb, ltb, List, [], ◌∷◌, length, get_or, map, ℤ, pos, negsuc, ◌+ℤ◌, Some, None, Option, sym, refl, ap, ◌∙◌, subst, arith}
+use Rattle.std.proofs.Common.{◌≡◌, ℕ, zero, suc, ◌+◌, ◌*◌, ◌/◌, ◌%◌, ◌<◌, Bool, true, false, eqb, List, length, get_or, ℤ, pos, negsuc, ◌+ℤ◌, Some, None, Option, sym, refl, ap, ◌∙◌, arith}
 use Rattle.std.proofs.lemmas.Bool.{false≢true, eq-eqb, eqb-true, lt-ltb}
-use Rattle.std.proofs.lemmas.Bool.Decides.{nat_tests, same_from_decides}
+use Rattle.std.proofs.lemmas.Bool.Decides.{nat_tests}
 use Rattle.std.proofs.lemmas.Map.Views.{Contains-from_any, list_any-from_Contains}
 use Rattle.std.proofs.lemmas.Nat.{div-mul-add, mod-mul-add, mul-add-lt, div-add-mod', div_below, mod_below}
 use Rattle.std.proofs.lemmas.Option.{none-some}
 use Rattle.std.specs.Cmp.{IsEquivalence}
-use Rattle.std.specs.List.{Contains, list_any}
 use Rattle.hexboard.specs.Board as board
 use Rattle.hexboard.specs.Board.{Board}
-use Rattle.hexboard.specs.Geometry.{step_to, given, laid}
-use Rattle.hexboard.specs.Laying.{Rules, HasWon, IsPosition}
-use Rattle.hexboard.specs.Shapes.{Shape, next_to, IsFair, at_first, at_last, has_stone, leads_on, leads, is_way, shape_rules, cell_in, step_from, neighbour_in, starts, finishes, two_bits, rhombus}
+use Rattle.hexboard.specs.Geometry.{step_to, given}
+use Rattle.hexboard.specs.Laying.{HasWon}
+use Rattle.hexboard.specs.Shapes.{Shape, next_to, IsFair, at_first, at_last, has_stone, shape_rules, cell_in, step_from, neighbour_in, starts, finishes, two_bits, rhombus}
 use Rattle.hexboard.proofs.Adjacent as adjacent
 use Rattle.hexboard.proofs.Given.{given_only, given_all}
-use Rattle.theorems.proofs.Leading.{Track, Leads, IsLed, Carries, carried}
+use Rattle.theorems.proofs.Leading.{Track, IsLed, Carries, carried}
 
 -- A number is itself, and no other.
 same_number : IsEquivalence eqb
@@ -166,9 +165,9 @@ module _ (w t s : ℕ) (cells : List ℕ) (long : length cells ≡ w * t) where
   board_carries = record {
     own = λ i o. o;
     next = λ i j o p e. beside_next w t i j (record {
-        from = omega (arith, stone_parts s cells i o, long);
-        inside = omega (arith, stone_parts s cells j p, long);
-        near = e;
+      from = omega (arith, stone_parts s cells i o, long);
+      inside = omega (arith, stone_parts s cells j p, long);
+      near = e;
     });
     first = λ i _ e. first_border w t s i ∙ e;
     last = λ i _ e. last_border w t s i ∙ e;

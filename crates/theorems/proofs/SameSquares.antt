@@ -1,6 +1,5 @@
 -- Boards n wide and n tall are boards w wide and t tall with w and t both n: neighbours, borders, ways, and what can be forced.
-use Rattle.std.proofs.Common.{◌≡◌, ℕ, ◌+◌, ◌*◌, ◌/◌, ◌%◌, ◌<◌, Bool, true, false, cond, ltb, ◌&&◌, ◌↔◌, List, map, length, set, ℤ, pos, negsuc, ◌+ℤ◌, Some, None, Option, sym, refl, ap, ap₂, ◌∙◌, subst, arith}
-use Rattle.std.proofs.lemmas.Bool.{false≢true}
+use Rattle.std.proofs.Common.{◌≡◌, ℕ, ◌+◌, ◌*◌, ◌/◌, ◌%◌, ◌<◌, Bool, true, false, cond, ltb, ◌&&◌, ◌↔◌, List, length, ℤ, pos, negsuc, ◌+ℤ◌, Some, None, Option, sym, refl, ap, ap₂, ◌∙◌, subst}
 use Rattle.std.proofs.lemmas.List.{length-set, map-id}
 use Rattle.hexboard.specs.Board as board
 use Rattle.hexboard.specs.Board.{Board, begins, ends, other}
@@ -8,10 +7,10 @@ use Rattle.hexboard.specs.Games.{Forces}
 use Rattle.hexboard.specs.Geometry.{cell_of, step_to, toward, neighbour_of, given, neighbours, touch, laid}
 use Rattle.hexboard.specs.Laying.{Rules, HasWon, CanForce, has, mine, theirs, square_rules}
 use Rattle.hexboard.specs.Promise.{Good, across}
-use Rattle.hexboard.specs.Shapes.{next_to, is_way, shape_rules, cell_in, step_from, neighbour_in, starts, finishes, two_bits, rhombus, turned}
+use Rattle.hexboard.specs.Shapes.{next_to, is_way, shape_rules, cell_in, step_from, neighbour_in, two_bits, rhombus}
 use Rattle.theorems.specs.Rhombi.{SquaresAreRhombi}
 use Rattle.theorems.proofs.Leading.{Leads, carried_row}
-use Rattle.theorems.proofs.RhombusWays.{board_track, Beside, next_beside, beside_next, shape_carries, board_carries, by_places, from_places}
+use Rattle.theorems.proofs.RhombusWays.{board_track, next_beside, beside_next, shape_carries, board_carries, by_places, from_places}
 use Rattle.theorems.proofs.BoardWays.{pick_if, begins_starts, ends_finishes, way_leads, leads_way, of_board, to_board}
 use Rattle.theorems.proofs.Squares.{to_game, of_game}
 

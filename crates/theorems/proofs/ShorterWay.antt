@@ -1,5 +1,5 @@
 -- The side with the shorter way: one cell of each pair is enough for it, so it can force that it connects, whoever is to move.
-use Rattle.std.proofs.Common.{◌≡◌, ℕ, ◌+◌, ◌-◌, ◌*◌, ◌/◌, ◌%◌, ◌<◌, ◌≤◌, Bool, true, false, not, cond, eqb, ◌≢◌, ◌⊎◌, List, length, get_or, replicate, All, sym, refl, ap, ap₂, ◌∙◌, subst, inl, inr, ⊎_elim, arith, lit<}
+use Rattle.std.proofs.Common.{◌≡◌, ℕ, ◌+◌, ◌-◌, ◌*◌, ◌/◌, ◌%◌, ◌<◌, ◌≤◌, Bool, true, false, not, eqb, ◌≢◌, ◌⊎◌, List, get_or, replicate, sym, refl, ap, ap₂, ◌∙◌, subst, inl, inr, ⊎_elim, arith, lit<}
 use Rattle.std.proofs.lemmas.Bool.{lt-ltb, le-ltb, cases_eq, cases_lt, eq-eqb, false≢true}
 use Rattle.std.proofs.lemmas.Bool.Decides.{nat_tests}
 use Rattle.std.proofs.lemmas.List.{length-replicate, get_or-replicate}
@@ -8,11 +8,11 @@ use Rattle.std.proofs.lemmas.Nat.{mul-add-lt, div_below, mod_below}
 use Rattle.hexboard.specs.Board.{empties, other}
 use Rattle.hexboard.specs.Laying.{HasWon, CanForce, IsPosition}
 use Rattle.hexboard.specs.Shapes.{shape_rules, rhombus}
-use Rattle.theorems.specs.Pairs.{HasOneOfEach, HasOneOrNone, IsEnough, IsAnswered}
+use Rattle.theorems.specs.Pairs.{HasOneOfEach, HasOneOrNone, IsAnswered}
 use Rattle.theorems.specs.Forcing.{FirstCanForce}
 use Rattle.theorems.specs.Shorter.{place_of, cell_at, flip, partner, shorter_side, PartnersAreEnough, PartnersCanForce, ShorterCanForce, PartnersAnswer, FirstExactlyOnSquares}
 use Rattle.theorems.specs.Shorter as shorter
-use Rattle.theorems.proofs.Cells.{Cell, Near, along}
+use Rattle.theorems.proofs.Cells.{Cell}
 use Rattle.theorems.proofs.Line.{On, Led, first, more, OnBoard, Across}
 use Rattle.theorems.proofs.NeverNeither.{number, number_row, number_column, colour, across_way}
 use Rattle.theorems.proofs.RhombusWays.{from_places}

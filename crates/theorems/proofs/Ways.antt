@@ -1,7 +1,7 @@
 -- A way taken apart into its facts, and put together from them.
-use Rattle.std.proofs.Common.{◌≡◌, ℕ, ◌<◌, Bool, true, ◌&&◌, eqb, ltb, List, [], ◌∷◌, map, length, arith}
+use Rattle.std.proofs.Common.{◌≡◌, ℕ, Bool, true, ◌&&◌, eqb, ltb, List, ◌∷◌, length, arith}
 use Rattle.std.proofs.lemmas.Bool.Decides.{nat_tests}
-use Rattle.hexboard.specs.Board.{Board, at, next_to, begins, ends, goes_on, is_way, Connects}
+use Rattle.hexboard.specs.Board.{Board, at, next_to, begins, goes_on, is_way}
 use Rattle.hexboard.specs.Rows.{Stone}
 
 -- the test that a way makes of each of its cells: a first thing, the stone, and the rest of the way

@@ -2,7 +2,7 @@
 -- on the other. Definitions only.
 use Rattle.std.specs.Prelude.{◌≡◌, ℕ, ◌<◌, ◌≢◌, ◌⊎◌, List, length, slice_index, slice_set}
 use Rattle.hexboard.specs.Board.{empties, other}
-use Rattle.hexboard.specs.Laying.{IsSide, Rules, HasWon, CanForce, IsPosition}
+use Rattle.hexboard.specs.Laying.{Rules, HasWon, IsPosition}
 
 -- Each of so many cells has a partner, whose partner it is. A cell that is its own partner is in no
 -- pair.
