@@ -1,5 +1,5 @@
 -- A desk of the rules that answers as the code was heard to answer, answers all calls right.
-use Rattle.std.proofs.Common.{◌≡◌, ℕ, ◌*◌, ◌<◌, ◌≤◌, min, true, false, ◌&&◌, ◌==◌, nat_lt, List, [], ◌∷◌, map, length, ◌++◌, sym, ap, subst, ⊎_elim, mul-le-mul, arith, MatchResult}
+use Rattle.std.proofs.Common.{◌≡◌, refl, ℕ, ◌*◌, ◌<◌, ◌≤◌, min, true, false, ◌&&◌, ◌==◌, nat_lt, List, [], ◌∷◌, map, length, ◌++◌, sym, ap, subst, ⊎_elim, mul-le-mul, arith, MatchResult}
 use Rattle.std.proofs.lemmas.List.{length-set, length-replicate}
 use Rattle.std.proofs.str.Laws.{order}
 use Rattle.hexboard.specs.Board.{pick, put, other, at, all_cells}
@@ -14,7 +14,7 @@ use Rattle.wire.specs.declared.call.Call.TheVariants as call
 use Rattle.wire.proofs.Calls.{read_back}
 use Rattle.wire.proofs.Tellings.{same_answer}
 use Rattle.session.specs.Calling.{RightBytes}
-use Rattle.session.specs.Runs.{Runs, one, says_all, asking, DesksAreRight, Hears, Plays}
+use Rattle.session.specs.Runs.{Runs, one, says_all, asking, DesksAreRight, Hears, Plays, PlaysSuffice}
 
 -- a board keeps its number of cells
 length_after : (g : games.Game) (c : games.Call) → length ((games.after g c).board.cells) ≡ length g.board.cells
@@ -101,3 +101,9 @@ pub plays : (n : ℕ) (rows : List (List ℕ)) (before after : List (List ℕ) �
 plays n rows before after g last some few new heard =
     let hears = subst (λ x. Hears x rows last before after) new heard in
     record { some = some; few = few; last = last; hears = hears; desks = desks_right n rows hears.answers last few hears.runs }
+
+-- a desk that says what plays tell answers right
+pub plays_suffice : PlaysSuffice
+unfolding promise.AnswersRight
+plays_suffice d says n cs some few =
+    let play = says n cs some few in play.desks d cs refl (sym (play.hears.heard [] refl))

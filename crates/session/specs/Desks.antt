@@ -49,10 +49,12 @@ RefusesSize n largest why =
     ((why ≡ refusal.BadSize) × (0 < n → n ≤ 19 → ⊥))
     ⊎ ((why ≡ refusal.SmallMemory) × (0 < n) × (n ≤ 19) × (largest < n))
 
--- What opening again answers: a new game in the same room, with the bytes for a way as they were; or nothing at all has changed.
+-- What opening again answers: a new game in the same room, with scratch and the bytes for a way as they were; or nothing at all has
+-- changed.
 abbrev pub Reopens : ℕ → Desk → Desk → Result (Unit {0}) Refusal → Type 0
 Reopens n old new r =
     MatchResult r
     (λ _. (0 < n) × (n ≤ largest_of old) × (desk_game new ≡ games.new_game n)
-    × (largest_of new ≡ largest_of old) × (new.way.items ≡ old.way.items))
+    × (largest_of new ≡ largest_of old) × (new.way.items ≡ old.way.items)
+    × (new.scratch.items ≡ old.scratch.items))
     (λ why. RefusesSize n (largest_of old) why × (new ≡ old))

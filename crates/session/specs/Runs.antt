@@ -52,6 +52,18 @@ pub record Plays (n : ℕ) (rows : List (List ℕ)) (before after : List (List �
   pub hears : Hears (games.new_game n) rows last before after
   pub desks : DesksAreRight n rows (map shown hears.answers)
 
+-- A desk of the rules says what plays tell: to each list of calls, on each board, the answers whose bytes a listener has heard after a
+-- play of the calls' bytes, and no others.
+abbrev pub SaysWhatPlaysTell : promise.Desk → Type 0
+SaysWhatPlaysTell d =
+    (n : ℕ) (cs : List games.Call) → 0 < n → n ≤ 19 →
+    Plays n (map asking cs) (λ heard. heard ≡ [])
+    (λ heard. heard ≡ map shown (says_all d (d.opened n) cs))
+
+-- So what `Plays` says is the promise: every such desk answers all lists of calls right.
+abbrev pub PlaysSuffice : Type 0
+PlaysSuffice = (d : promise.Desk) → SaysWhatPlaysTell d → promise.AnswersRight d
+
 -- what the slices hold
 abbrev pub rows_of : List (Bor (List ℕ)) → List (List ℕ)
 rows_of slices = map (λ slice. slice.now) slices

@@ -5,7 +5,7 @@ ghost use Rattle.history.specs.Holds.{formal, Holds};
 ghost use Rattle.session.specs.Serving.{Room};
 ghost use Rattle.session.specs.Calling.{Called};
 ghost use Rattle.session.specs.Lending.{memory_in, New, NotOpened};
-ghost use Rattle.session.specs.Runs.{Hears, Plays, rows_of};
+ghost use Rattle.session.specs.Runs.{Hears, Plays, PlaysSuffice, rows_of};
 ghost use Rattle.session.specs.Sizes.{asked, within};
 
 use crate::bytes::show;
@@ -168,10 +168,11 @@ pub fn play<'a, S: Sink>(
     calls: &[&[u8]],
     sink: &mut S,
 ) -> Result<(), Closed<'a>>
-    ensures { MatchResult result
+    ensures played { MatchResult result
         (λ _. Plays n (rows_of calls.now) (S.Sink.heard sink.old) (S.Sink.heard sink.new))
         (λ e. (e.memory.now ≡ memory.old) × NotOpened n (length memory.old) e.why
         × (sink.new ≡ sink.old)) }
+    ensures promised { PlaysSuffice }
 {
     let parts = open(n, memory)?;
     let size = Size::new(n).unwrap();
