@@ -181,7 +181,9 @@ empty_pairs w t s i h _ =
 pub shorter_can_force : ShorterCanForce
 shorter_can_force w t s hw ht n turn =
     let can = partners_can_force w t s (replicate (w * t) 0) hw ht n turn (empty_position w t) (empty_pairs w t (shorter_side w t)) in
-    (can, not_both_forced (rhombi_lawful w t hw ht) can (other (shorter_side w t)) (against_other (shorter_side w t) (is_side w t)) (empty_position w t))
+    let apart = against_other (shorter_side w t) (is_side w t) in
+    let p = empty_position w t in
+    (can, λ k. not_both_forced (rhombi_lawful w t hw ht) can (other (shorter_side w t)) apart p k refl)
 
 -- Said by the measures: wider than tall, side 1 can force it, and taller than wide, side 2.
 pub wide_can_force : (w t s : ℕ) → 0 < t → t < w → Side s → CanForce (shape_rules (rhombus w t)) 1 (replicate (w * t) 0) s
