@@ -2,7 +2,8 @@
 #![tactic(auto)]
 
 use driver::Limits;
-use programs::{Answers, Program};
+use hexboard::Size;
+use programs::{Program, answer_input};
 
 const HELP: &str =
     "answer: reads calls from standard input, a line each, and answers each with a line, at once
@@ -15,9 +16,10 @@ fn main(rt: HostRuntime) -> anyhow::Result<()> {
         name: "answer",
         help: HELP,
         limits: Limits {
-            largest: 7,
-            ends: Some(10),
+            largest: Size::new(7).unwrap(),
+            ends: 10,
         },
+        flags: &[],
     };
-    programs::run(&rt, program, &Answers)
+    answer_input(&rt, program)
 }

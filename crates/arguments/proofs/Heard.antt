@@ -1,6 +1,6 @@
 -- What is known of a row of arguments, one argument further.
 use Rattle.std.proofs.Common.{◌≡◌, ◌≢◌, ℕ, ◌+◌, List, Bool, true, refl, sym, ap, ◌∙◌, subst, ⊎_elim, arith}
-use Rattle.std.specs.Prelude.{Decides, slice_index_or}
+use Rattle.std.specs.Prelude.{IsTrue, ◌↔◌, slice_index_or}
 use Rattle.std.proofs.lemmas.Bool.{cases_eq}
 use Rattle.arguments.specs.declared.flags.Flag.{Flag}
 use Rattle.arguments.specs.declared.flags.Flag.TheVariants.{Help, Show, Times}
@@ -16,11 +16,11 @@ takes_more taken arguments k h one i l =
     ⊎_elim (λ here. subst (λ j. Takes taken (argument_at arguments j)) (sym here) one) (λ apart. h i (omega (arith, l, apart))) (cases_eq i k)
 
 -- The next argument is the flag,
-among_now : (arguments : List (List ℕ)) (k : ℕ) (f : Flag) → argument_at arguments k ≡ written f → Decides true (Among arguments (k + 1) f)
+among_now : (arguments : List (List ℕ)) (k : ℕ) (f : Flag) → argument_at arguments k ≡ written f → (IsTrue true ↔ Among arguments (k + 1) f)
 among_now arguments k f is = ((λ _. (k, omega arith, is)), (λ _. refl))
 
 -- or it is another.
-among_as_before : (arguments : List (List ℕ)) (k : ℕ) (f : Flag) (b : Bool) → argument_at arguments k ≢ written f → Decides b (Among arguments k f) → Decides b (Among arguments (k + 1) f)
+among_as_before : (arguments : List (List ℕ)) (k : ℕ) (f : Flag) (b : Bool) → argument_at arguments k ≢ written f → (IsTrue b ↔ Among arguments k f) → (IsTrue b ↔ Among arguments (k + 1) f)
 among_as_before arguments k f b other h = ((λ yes. more (h.0 yes)), (λ found. h.1 (fewer found)))
   where
     more : Among arguments k f → Among arguments (k + 1) f
@@ -31,7 +31,7 @@ among_as_before arguments k f b other h = ((λ yes. more (h.0 yes)), (λ found. 
 
 -- which flags are among the first arguments is known
 abbrev pub Told : List (List ℕ) → ℕ → Asked → Type 0
-Told arguments k asked = Decides asked.show (Among arguments k Show) × Decides asked.times (Among arguments k Times)
+Told arguments k asked = (IsTrue asked.show ↔ Among arguments k Show) × (IsTrue asked.times ↔ Among arguments k Times)
 
 -- One flag more; of two flags the third letter differs.
 pub told_more : (arguments : List (List ℕ)) (k : ℕ) (f : Flag) (asked : Asked) → argument_at arguments k ≡ written f → Told arguments k asked → Told arguments (k + 1) (with_flag asked f)

@@ -1,5 +1,5 @@
 -- The arguments that programs know, and what a row of them asks for. Definitions only.
-use Rattle.std.specs.Prelude.{◌≡◌, ◌≢◌, ℕ, ◌<◌, List, [], length, codes, slice_index_or, true, Contains, Decides}
+use Rattle.std.specs.Prelude.{◌≡◌, ◌≢◌, ℕ, ◌<◌, List, [], length, codes, slice_index_or, true, Contains, IsTrue, ◌↔◌}
 use Rattle.arguments.specs.declared.flags.Flag.{Flag}
 use Rattle.arguments.specs.declared.flags.Flag.TheVariants.{Help, Show, Times}
 use Rattle.arguments.specs.declared.flags.Asked.{Asked}
@@ -47,7 +47,9 @@ AsksForHelp taken arguments = (k : ℕ) × (k < length arguments) × TakesFirst 
 -- the program takes each of the arguments, and these are among them
 abbrev pub AsksFor : List Flag → List (List ℕ) → Asked → Type 0
 AsksFor taken arguments asked =
-    TakesFirst taken arguments (length arguments) × Decides asked.show (Among arguments (length arguments) Show) × Decides asked.times (Among arguments (length arguments) Times)
+    TakesFirst taken arguments (length arguments) ×
+    (IsTrue asked.show ↔ Among arguments (length arguments) Show) ×
+    (IsTrue asked.times ↔ Among arguments (length arguments) Times)
 
 -- the program takes each of the arguments before this one, and not this
 abbrev pub FirstUntaken : List Flag → List (List ℕ) → List ℕ → Type 0

@@ -2,7 +2,7 @@
 ghost use Rattle.std.specs.Prelude.{◌≡◌, MatchOption, MatchResult, ◌≢◌, map, string_bytes};
 ghost use Rattle.arguments.specs.Flags.{written, with_flag, TakenAs, Untaken, AsksForHelp, AsksFor, FirstUntaken};
 
-// An argument.
+/// An argument.
 #[derive(Clone, Copy, PartialEq, Eq)]
 pub enum Flag {
     Help,
@@ -10,7 +10,7 @@ pub enum Flag {
     Times,
 }
 
-// What the arguments ask for besides --help.
+/// What the arguments ask for besides --help.
 #[derive(Clone, Copy)]
 pub struct Asked {
     pub show: bool,
@@ -33,7 +33,7 @@ impl Asked {
     }
 }
 
-// The flag that an argument is. An Option and no FromStr: what is no flag is told by the program, under its own name.
+// The flag that an argument is, if it is one.
 fn read_flag(argument: &str) -> Option<Flag>
     ensures { MatchOption result ((f : Flag) → argument.now ≢ written f) (λ f. argument.now ≡ written f) }
 {
@@ -55,15 +55,16 @@ fn taken_flag(argument: &str, taken: &[Flag]) -> Option<Flag>
     }
 }
 
-// What the arguments ask for, if each is --help or one of the flags that the program takes: none at the first --help, whatever comes
-// behind it. Else the first that is not.
+/// What the arguments ask for, if each is --help or one of the flags that the program takes: none at
+/// the first --help, whatever comes behind it. Else the first that is not.
 pub fn read_arguments<'a>(
     arguments: &'a [String],
     taken: &[Flag],
 ) -> Result<Option<Asked>, &'a String>
-    ensures { MatchResult result
-        (λ asked. MatchOption asked (AsksForHelp taken.now (map string_bytes arguments.now)) (AsksFor taken.now (map string_bytes arguments.now)))
-        (λ found. FirstUntaken taken.now (map string_bytes arguments.now) (string_bytes found.now)) }
+    ensures { let given = map string_bytes arguments.now in
+        MatchResult result
+        (λ asked. MatchOption asked (AsksForHelp taken.now given) (AsksFor taken.now given))
+        (λ found. FirstUntaken taken.now given (string_bytes found.now)) }
 {
     let mut asked = Asked {
         show: false,

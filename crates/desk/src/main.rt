@@ -1,8 +1,10 @@
 // Answers calls as they come, on boards of every size that a desk has: for a person at a terminal or for a file.
 #![tactic(auto)]
 
+use arguments::Flag;
 use driver::Limits;
-use programs::Program;
+use hexboard::Size;
+use programs::{Program, answer_input};
 
 const HELP: &str =
     "desk: reads calls from standard input, a line each, and answers each with a line, at once
@@ -18,9 +20,10 @@ fn main(rt: HostRuntime) -> anyhow::Result<()> {
         name: "desk",
         help: HELP,
         limits: Limits {
-            largest: 19,
-            ends: Some(16),
+            largest: Size::new(Size::MAX).unwrap(),
+            ends: 16,
         },
+        flags: &[Flag::Show, Flag::Times],
     };
-    programs::run_with_flags(&rt, program)
+    answer_input(&rt, program)
 }

@@ -1,60 +1,85 @@
--- What the parts of serving a line say, put together as what a line is answered by.
-use Rattle.std.proofs.Common.{◌≡◌, ℕ, List, ◌++◌, IfOk, Ok, Err, None, refl, Result, ⊎_elim, inl, inr, ◌+◌, [], ◌∷◌, take, sym, ap, ◌∙◌}
-use Rattle.std.proofs.lemmas.List.{flat_map_more}
-use Rattle.std.specs.List.{flat_map}
+-- What a line is read as, and what serving it at a table answers.
+use Rattle.std.proofs.Common.{◌≡◌, ◌≢◌, ℕ, ◌+◌, ◌<◌, ◌≤◌, min, List, [], ◌++◌, length, take, Bool, true, false, if◌then◌else◌, IfSome, Some, None, Ok, Err, Result, refl, sym, ap, subst, ◌∙◌, ⊎_elim, append-nil, arith}
+use Rattle.std.proofs.lemmas.Bool.{cases_lt}
+use Rattle.std.proofs.lemmas.List.{take_min, take_all, take-take, length-take}
 use Rattle.hexboard.specs.Games as games
+use Rattle.wire.specs.Formal.{asked, shown_by}
 use Rattle.wire.specs.declared.call.Call.{Call}
-use Rattle.wire.specs.Answers.{line_of}
-use Rattle.text.specs.Lines.{Asks, Says, asked_by}
-use Rattle.text.specs.Readings.{Reads}
+use Rattle.wire.specs.declared.refusal.Refusal.{Refusal}
+use Rattle.session.specs.Desks.{RefusesSize}
+use Rattle.session.specs.Short.{Short}
+use Rattle.text.specs.Lines.{Asks, Readable}
+use Rattle.text.specs.Places.{Stops}
 use Rattle.text.specs.declared.reading.Line.{Line}
 use Rattle.text.specs.declared.reading.Line.TheVariants as line
-use Rattle.driver.specs.Served.{unreadable_at, Reopened, LeftByBoard, Called, LeftByCall, Next, First, Told, LeftByLine}
-use Rattle.driver.specs.declared.served.Served.{Served}
-use Rattle.driver.specs.declared.served.Served.TheVariants.{Taken}
-use Rattle.driver.specs.declared.times.Kind.{Kind}
+use Rattle.driver.specs.Drawn.{IsShortestWay}
+use Rattle.driver.specs.Served.{ReadableTo, IsRead, IsServedSize, IsBeyond, Serves, answer}
 use Rattle.driver.specs.declared.limits.Limits.{Limits}
+use Rattle.driver.specs.declared.line.TheConstants.{LONGEST_LINE}
+use Rattle.driver.proofs.Outcomes.{who_keeps}
 
-pub reopened_next : (limits : Limits) (n : ℕ) (bytes : List ℕ) (g h : games.Game) (served : Served) (before after : List ℕ) → Asks bytes (line.Board n) →
-    Reopened limits n g h served before after → Told limits bytes g h served before after
-reopened_next limits n bytes g h served before after asks =
-    ⊎_elim
-    (λ yes'. (asked_by (line.Board n), yes'.3, rw (yes'.1, yes'.2) (Next.opened n asks yes'.0)))
-    (λ no'. (line_of (games.refused 3 0), no'.3, rw (no'.1, no'.2) (Next.out_of_range n asks no'.0)))
+-- as many bytes as there are, or the first n
+pub kept_is : (n : ℕ) (bytes : List ℕ) → take (min (length bytes) n) bytes ≡ take n bytes
+kept_is n bytes = let least : min (length bytes) n ≡ min n (length bytes) = omega arith in ap (λ k. take k bytes) least ∙ take_min n bytes
 
-pub called_next : (limits : Limits) (bytes : List ℕ) (call : Call) (g h : games.Game) (served : Served) (before after : List ℕ) → Says bytes call →
-    Called limits call g h served before after → Told limits bytes g h served before after
-called_next limits bytes call g h served before after says =
-    ⊎_elim
-    (λ told. let (a, written, is, right, short) = told.2 in (line_of a, written, rw is (Next.answered call a says told.0 told.1 right short)))
-    (⊎_elim
-    (λ far. (line_of games.too_many, far.3, rw (far.1, far.2) (Next.beyond call says far.0)))
-    (λ not'. (unreadable_at 0, not'.3, rw (not'.1, not'.2) (Next.unserved call says not'.0))))
+-- a beginning that can be read goes on with nothing
+pub readable_to_all : (n : ℕ) (bytes : List ℕ) (l : Line) → n < length bytes → Asks (take n bytes) l → ReadableTo (take n bytes) n
+readable_to_all n bytes l long asks =
+    let count : length (take n bytes) ≡ n = omega (arith, length-take n bytes) in record {
+      within = omega (arith, count);
+      begins = ([], (l, subst (λ b. Asks b l) (sym (append-nil (take n (take n bytes)) ∙ take-take n n bytes (omega arith))) asks));
+      longest = λ q more within reads. absurd (omega (arith, more, within, count));
+    }
 
--- what a new board, or a call, leaves is what its line leads to
-pub left_by_board : (limits : Limits) (n : ℕ) (bytes : List ℕ) (g h : games.Game) → Asks bytes (line.Board n) → LeftByBoard limits n g h → LeftByLine limits bytes g h
-left_by_board limits n bytes g h asks = ⊎_elim (λ same. inl same) (λ new. inr (asked_by (line.Board n), Taken, rw new.1 (Next.opened n asks new.0)))
+pub readable_to_stop : (bytes : List ℕ) (p : ℕ) → Stops Readable bytes p → ReadableTo bytes p
+readable_to_stop bytes p stops = record { within = stops.within; begins = stops.begins; longest = stops.longest }
 
-pub left_by_call : (limits : Limits) (call : Call) (bytes : List ℕ) (g h : games.Game) → Says bytes call → LeftByCall limits call g h → LeftByLine limits bytes g h
-left_by_call limits call bytes g h says =
-    ⊎_elim
-    (λ same. inl same)
-    (λ left. let (a, right, short) = left.2 in inr (_, _, Next.answered call a says left.0 left.1 right short))
+-- what can be read, but not its beginning, is longer
+pub too_long : (n : ℕ) (bytes : List ℕ) (p : ℕ) → Stops Readable (take n bytes) p → Readable bytes → n < length bytes
+too_long n bytes p stops reads =
+    ⊎_elim (λ long. long) (λ short. absurd (stops.none (subst Readable (sym (take_all n bytes short)) reads))) (cases_lt n (length bytes))
 
--- what holds of all that was made holds of what follows from it
-pub made_more : {X Y : Type 0} {P Q : X → Type 0} (r : Result X Y) → ((x : X) → P x → Q x) → IfOk r P → IfOk r Q
-made_more (Ok x) f = f x
-made_more (Err y) f = λ _. tt
+-- what the beginning of a line that is kept is read as, the line is
+pub is_read_kept : (bytes kept : List ℕ) (r : Result Line ℕ) → kept ≡ take (LONGEST_LINE + 1) bytes → IsRead kept r → IsRead bytes r
+is_read_kept bytes kept (Ok l) is (short, asks) =
+    let count : length kept ≡ min (LONGEST_LINE + 1) (length bytes) = ap length is ∙ length-take (LONGEST_LINE + 1) bytes in
+    let all : kept ≡ bytes = is ∙ take_all (LONGEST_LINE + 1) bytes (omega (arith, short, count)) in
+    subst (λ b. IsRead b (Ok l)) all (short, asks)
+is_read_kept bytes kept (Err p) is (long, begins) =
+    let count : length kept ≡ min (LONGEST_LINE + 1) (length bytes) = ap length is ∙ length-take (LONGEST_LINE + 1) bytes in (
+      λ reads.
+          ⊎_elim (λ more. more)
+          (λ short.
+          let all : kept ≡ bytes = is ∙ take_all (LONGEST_LINE + 1) bytes (omega (arith, short)) in
+          absurd (omega (arith, long (subst Readable (sym all) reads), count, short)))
+          (cases_lt LONGEST_LINE (length bytes)),
+      subst (λ b. ReadableTo b p) (ap (take LONGEST_LINE) is ∙ take-take LONGEST_LINE (LONGEST_LINE + 1) bytes (omega arith)) begins,
+    )
 
--- the lines of some kinds, and that of one more
-pub lines_more : (f : Kind → List ℕ) (before now' after : List ℕ) (ks : List Kind) (i : ℕ) (k : Kind) → take (i + 1) ks ≡ take i ks ++ k ∷ [] →
-    now' ≡ before ++ flat_map f (take i ks) → after ≡ now' ++ f k → after ≡ before ++ flat_map f (take (i + 1) ks)
-lines_more f before now' after ks i k more was is =
-    is ∙ (ap (λ (xs : List ℕ). xs ++ f k) was ∙ (flat_map_more f before (take i ks) k ∙ ap (λ (js : List Kind). before ++ flat_map f js) (sym more)))
+-- a size that is refused is none that the program serves
+pub refuses : (limits : Limits) (n largest : ℕ) (why : Refusal) → largest ≡ limits.largest.n → RefusesSize n largest why → IsServedSize limits n → ⊥
+refuses limits n largest why is reason (some, within) =
+    let few : limits.largest.n ≤ 19 = limits.largest.few in
+    ⊎_elim (λ range. range.1 some (omega (arith, within, few))) (λ room. omega (arith, room.3, within, is)) reason
 
--- a first line that asks for no board
-pub no_board_first : (limits : Limits) (bytes : List ℕ) (r : Result Line ℕ) → Reads bytes r → ((n : ℕ) → r ≡ Ok (line.Board n) → ⊥) →
-    First limits bytes None (unreadable_at 0)
-no_board_first limits bytes (Ok (line.Board n)) asks not' = absurd (not' n refl)
-no_board_first limits bytes (Ok (line.Call call)) says not' = First.call_before call says
-no_board_first limits bytes (Err p) stops not' = First.unreadable p stops
+module _ (limits : Limits) (call : Call) (g : games.Game) where
+  pub closed : (open' : Bool) → open' ≡ false →
+      Serves limits (Ok (line.Call call)) (if open' then Some g else None) (answer (games.refused 1 0)) (if open' then Some g else None)
+  closed true e = absurd cc
+  closed false e = Serves.no_board call
+
+  pub put_off : (open' : Bool) → open' ≡ true → IsBeyond limits g call →
+      Serves limits (Ok (line.Call call)) (if open' then Some g else None) (answer games.too_many) (if open' then Some g else None)
+  put_off true e far = Serves.beyond call far
+  put_off false e far = absurd cc
+
+  pub answered : (open' : Bool) (h : games.Game) (a : games.Answer) → open' ≡ true → (IsBeyond limits g call → ⊥) → games.Right g (asked call) a h → Short g.board a →
+      Serves limits (Ok (line.Call call)) (if open' then Some g else None) (answer a) (if open' then Some h else None)
+  answered true h a e near right short = Serves.answers call a near right short
+  answered false h a e near right short = absurd cc
+
+-- the way that was found is a shortest
+pub found : (open' : Bool) (g h : games.Game) (a : games.Answer) (cells : List ℕ) → games.Right g games.who a h → Short g.board a → cells ≡ shown_by a →
+    IfSome (if open' then Some g else None) (λ k. IsShortestWay k cells)
+found true g h a cells right short is = (a, subst (λ (k : games.Game). games.Right g games.who a k) (who_keeps right refl) right, short, is)
+found false g h a cells right short is = tt

@@ -1,2 +1,6 @@
 mod Answering
+mod Keeping
 mod Outcomes
+mod Running
+mod Tallied
+mod Writing

@@ -7,8 +7,8 @@ use Rattle.hexboard.specs.declared.side.Side.{Side}
 use Rattle.wire.specs.Formal.{shown_by}
 use Rattle.session.specs.Desks.{Outcome}
 use Rattle.session.specs.Short.{Short}
-use Rattle.driver.specs.Drawn.{Drawn, Marked}
-use Rattle.driver.specs.Served.{TooLong}
+
+
 
 -- nobody is told as the winner just if nobody has won
 pub open_if_nobody : (g : games.Game) (winner : Option Side) (r : Bool) → is_some winner ≡ not r → Outcome g winner → Decides r (games.Won g → ⊥)
@@ -32,15 +32,3 @@ who_keeps (games.forced i p w q f) e = refl
 who_keeps (games.has_it c) e = refl
 who_keeps (games.not_forced f) e = refl
 who_keeps (games.many p w) e = refl
-
--- the cells that are marked are those of the answer's way
-pub marked : (g h : games.Game) (a : games.Answer) (cells before after : List ℕ) → games.Right g games.who a h → Short g.board a → cells ≡ shown_by a → Drawn h cells before after →
-    Marked g before after
-marked g h a cells before after right short is shown =
-    let same : h ≡ g = who_keeps right refl in
-    (a, subst (λ (k : games.Game). games.Right g games.who a k) same right, short, subst (λ (k : games.Game). Drawn k (shown_by a) before after) same (subst (λ (xs : List ℕ). Drawn h xs before after) is shown))
-
--- an end is too long where a program looks through ends, and the test of how far was met
-pub too_long : (ends : Option ℕ) (r : Bool) (cells : ℕ) {Q : ℕ → Type 0} → r ≡ true → MatchOption ends (r ≡ false) Q → ((x : ℕ) → Q x → x < cells) → TooLong ends cells
-too_long None r cells yes' none f = absurd cc
-too_long (Some x) r cells yes' some f = f x some

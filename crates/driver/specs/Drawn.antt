@@ -5,13 +5,19 @@ use Rattle.hexboard.specs.declared.side.Side.{Side}
 use Rattle.wire.specs.Formal.{shown_by}
 use Rattle.session.specs.Desks.{Outcome}
 use Rattle.session.specs.Short.{Short}
+use Rattle.hexboard.specs.Words.{words}
 use Rattle.text.specs.Boards.{board_lines, outcome_line}
+use Rattle.driver.specs.declared.position.Position.{Position}
 
--- the lines of game g with these cells marked, behind what was there: its rows, and who has won
-abbrev pub Drawn : games.Game → List ℕ → List ℕ → List ℕ → Type 0
-Drawn g marked before after =
-    (winner : Option Side) × Outcome g winner × (after ≡ before ++ (board_lines g.board.wide g.board.cells marked ++ (outcome_line winner ++ codes "\n")))
+-- the lines of game g with these cells marked: its rows, and who has won
+abbrev pub Draws : games.Game → List ℕ → List ℕ → Type 0
+Draws g marked lines =
+    (winner : Option Side) × Outcome g winner × (lines ≡ board_lines g.board.wide g.board.cells marked ++ (outcome_line winner ++ codes "\n"))
 
--- the lines of game g with the cells of a right answer to who has connected marked: those of a shortest way, if somebody has
-abbrev pub Marked : games.Game → List ℕ → List ℕ → Type 0
-Marked g before after = (a : games.Answer) × games.Right g games.who a g × Short g.board a × Drawn g (shown_by a) before after
+-- these are the cells of a right answer to who has connected: those of a shortest way, if somebody has
+abbrev pub IsShortestWay : games.Game → List ℕ → Type 0
+IsShortestWay g cells = (a : games.Answer) × games.Right g games.who a g × Short g.board a × (cells ≡ shown_by a)
+
+-- the lines of a position, each with its end
+abbrev pub position_lines : Position → List ℕ
+position_lines p = board_lines p.board.size.n p.board.cells.now (words p.board.way.now) ++ (outcome_line p.outcome.0 ++ codes "\n")

@@ -1,19 +1,30 @@
--- Which lines lead to another position. Definitions only.
-use Rattle.std.specs.Prelude.{◌≡◌, Some, None, Option, ⊤}
-use Rattle.driver.specs.declared.times.Kind.{Kind}
-use Rattle.driver.specs.declared.times.Kind.TheVariants.{Board, Move, Back, Who, CanForce}
-use Rattle.driver.specs.declared.served.Served.{Served}
-use Rattle.driver.specs.declared.served.Served.TheVariants.{Taken}
+-- Which lines are refused, and which lead to another position. Definitions only.
+use Rattle.std.specs.Prelude.{◌≡◌, ℕ, Ok, Err, Result, ⊤}
+use Rattle.hexboard.specs.Games as games
+use Rattle.wire.specs.declared.call.Call.TheVariants as call
+use Rattle.text.specs.declared.reading.Line.{Line}
+use Rattle.text.specs.declared.reading.Line.TheVariants as line
+use Rattle.driver.specs.Served.{Reply, opened, answer}
 
--- a line of this kind opens a board, or changes the one there is
-abbrev pub Changing : Option Kind → Type 0
-Changing (Some Board) = ⊤
-Changing (Some Move) = ⊤
-Changing (Some Back) = ⊤
-Changing (Some Who) = ⊥
-Changing (Some CanForce) = ⊥
-Changing None = ⊥
+-- a reply that is a refusal
+abbrev pub IsRefusal : Reply → Type 0
+IsRefusal (opened n) = ⊥
+IsRefusal (answer (games.refused r p)) = ⊤
+IsRefusal (answer (games.number n)) = ⊥
+IsRefusal (answer (games.way s w)) = ⊥
+IsRefusal (answer (games.yes next)) = ⊥
+IsRefusal (answer games.no) = ⊥
+IsRefusal (answer games.too_many) = ⊥
 
--- a line of this kind was taken, and leads to another position
-abbrev pub LeadsOn : Option Kind → Served → Type 0
-LeadsOn kind served = (served ≡ Taken) × Changing kind
+-- a line asks for a new board, or to change the one there is
+abbrev pub AsksForChange : Result Line ℕ → Type 0
+AsksForChange (Ok (line.Board n)) = ⊤
+AsksForChange (Ok (line.Call (call.Move cell))) = ⊤
+AsksForChange (Ok (line.Call call.Back)) = ⊤
+AsksForChange (Ok (line.Call call.Who)) = ⊥
+AsksForChange (Ok (line.Call call.CanForce)) = ⊥
+AsksForChange (Err p) = ⊥
+
+-- it asks for that, and is not refused
+abbrev pub LeadsOn : Result Line ℕ → Reply → Type 0
+LeadsOn asked reply = AsksForChange asked × (IsRefusal reply → ⊥)

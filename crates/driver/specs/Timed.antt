@@ -1,9 +1,8 @@
 -- Kinds of lines, how often each came, and how long serving it took. Definitions only.
-use Rattle.std.specs.Prelude.{◌≡◌, ℕ, ◌+◌, ◌-◌, ◌^◌, min, max, List, [], ◌++◌, codes, decimal, Option, MatchOption, ◌==◌, slice_index_or, slice_set, ◌∷◌}
+use Rattle.std.specs.Prelude.{◌≡◌, ℕ, ◌+◌, ◌-◌, ◌^◌, min, max, List, [], ◌++◌, codes, decimal, ◌==◌, slice_index_or, slice_set, ◌∷◌}
 use Rattle.std.specs.List.{flat_map}
 use Rattle.hexboard.specs.Board.{pick}
 use Rattle.wire.specs.declared.call.Call.TheVariants as call
-use Rattle.text.specs.Lines.{Asks, Readable}
 use Rattle.text.specs.declared.reading.Line.{Line}
 use Rattle.text.specs.declared.reading.Line.TheVariants as line
 use Rattle.driver.specs.declared.times.Kind.{Kind}
@@ -38,10 +37,6 @@ name_of Move = codes "move"
 name_of Back = codes "back"
 name_of Who = codes "who"
 name_of CanForce = codes "can force"
-
--- the kind of what these bytes ask for, or none if they cannot be read
-abbrev pub OfKind : List ℕ → Option Kind → Type 0
-OfKind bytes found = MatchOption found (Readable bytes → ⊥) (λ k. (l : Line) × Asks bytes l × (k ≡ kind_of_line l))
 
 -- a sum that stops at what 64 bits hold
 abbrev pub capped : ℕ → ℕ

@@ -1,16 +1,24 @@
-// Serves a desk line by line: what is read, what is called, and what is written. The programs share it.
+// Serves a desk line by line: what is read, what is called, and what is told. The programs share it.
 #![tactic(auto)]
 
-mod drawing;
-mod failed;
+mod input;
 mod limits;
-mod lines;
-mod served;
+mod line;
+mod listener;
+mod position;
+mod printing;
+mod serve;
+mod table;
 mod times;
+mod told;
 
-pub use drawing::{write_marked_position, write_position};
-pub use failed::Failed;
+pub use input::Input;
 pub use limits::Limits;
-pub use lines::{answer_line, first_line, next_line};
-pub use served::Served;
-pub use times::{Kind, Tally, Times, kind_of, write_times};
+pub use line::{LONGEST_LINE, LineBuffer, next_line};
+pub use listener::Listener;
+pub use position::Position;
+pub use printing::{Answers, Positions, Refusals};
+pub use serve::{answer_bytes, serve_lines};
+pub use table::Table;
+pub use times::{Kind, Tally, Times};
+pub use told::{Served, Told};

@@ -1,14 +1,11 @@
 // How often each kind of line came, and how long serving it took.
 ghost use Rattle.std.specs.Prelude.{◌≡◌, ℕ, ◌-◌, ◌^◌, min, List, ◌++◌, Some, string_bytes, OnOk};
 ghost use Rattle.std.specs.Duration.{as_nanos};
-ghost use Rattle.driver.specs.Served.{trimmed};
-ghost use Rattle.driver.specs.Timed.{no_lines, kind_of_line, name_of, OfKind, capped, one_more, tally_of, noted, tally_line, times_lines};
+ghost use Rattle.driver.specs.Timed.{no_lines, kind_of_line, name_of, capped, one_more, tally_of, noted, tally_line, times_lines};
 
-use crate::lines::without_return;
 use std::fmt;
-use std::fmt::Write;
 use std::time::Duration;
-use text::{Line, read_line};
+use text::Line;
 use wire::Call;
 
 // What a line asks for, without its number.
@@ -74,13 +71,6 @@ pub struct Times {
     tallies: [Tally; 5],
 }
 
-// The kind of what the line asks for, or none if it cannot be read. A carriage return at its end is left out.
-pub fn kind_of(line: &[u8]) -> Option<Kind>
-    ensures { OfKind (trimmed line.now) result }
-{
-    read_line(without_return(line)).ok().map(Kind::from)
-}
-
 impl Tally {
     const NONE: Tally = Tally {
         count: 0,
@@ -132,32 +122,43 @@ fn nanos_of(span: Duration) -> u64
     u64::try_from(span.as_nanos()).unwrap_or(u64::MAX)
 }
 
-// Adds a line, with its end, for each kind of which a line came. A Display of the times would want one more type, for a kind with its
-// tally, to write a line by.
-pub fn write_times(out: &mut String, times: Times) -> fmt::Result
-    ensures { OnOk result (string_bytes out.new ≡ string_bytes out.old ++ times_lines times) }
-{
-    for kind in Kind::ALL {
-        write_tally(out, kind, times.of(kind))?;
+/// A line, with its end, for each kind of which a line came.
+impl fmt::Display for Times {
+    ghost output = { λ times. Some (times_lines times) };
+
+    fn fmt<W: fmt::Write>(&self, f: &mut fmt::Formatter<W>) -> fmt::Result {
+        for kind in Kind::ALL {
+            let tally = self.of(kind);
+            let line = TallyLine { kind, tally };
+            write!(f, "{line}")?;
+        }
+        Ok(())
     }
-    Ok(())
 }
 
-// Adds the line of a kind.
-fn write_tally(out: &mut String, kind: Kind, tally: Tally) -> fmt::Result
-    ensures { OnOk result (string_bytes out.new ≡ string_bytes out.old ++ tally_line (name_of kind) tally) }
-{
-    let Tally {
-        count,
-        total,
-        longest,
-    } = tally;
-    if count == 0 {
-        return Ok(());
+// The line of a kind, or nothing if no such line came.
+#[derive(Clone, Copy)]
+struct TallyLine {
+    kind: Kind,
+    tally: Tally,
+}
+
+impl fmt::Display for TallyLine {
+    ghost output = { λ line. Some (tally_line (name_of line.kind) line.tally) };
+
+    fn fmt<W: fmt::Write>(&self, f: &mut fmt::Formatter<W>) -> fmt::Result {
+        let kind = self.kind;
+        let Tally {
+            count,
+            total,
+            longest,
+        } = self.tally;
+        if count == 0 {
+            return Ok(());
+        }
+        writeln!(
+            f,
+            "{kind}: {count} calls, {total} ns in all, longest {longest} ns"
+        )
     }
-    writeln!(
-        out,
-        "{kind}: {count} calls, {total} ns in all, longest {longest} ns"
-    )?;
-    Ok(())
 }

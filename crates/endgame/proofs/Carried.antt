@@ -9,7 +9,7 @@ use Rattle.ranking.proofs.Bits.{bit_more, bit_less, bit_none, bit_one, bit_of_an
 use Rattle.theorems.proofs.Stones.{Side, EmptyIn, empty_counts, empty_or_full}
 use Rattle.theorems.proofs.Better.{Up, better, full}
 use Rattle.endgame.specs.Ends.{Numbered}
-use Rattle.endgame.specs.Ends.{mark, held, Wins, Stands}
+use Rattle.endgame.specs.Ends.{mark, board_within, Wins, Stands}
 use Rattle.endgame.proofs.Laying.{Laid, laid, where_is, laid_better, laid_put}
 
 -- what stands on a cell: a stone of the winner, nothing, or a stone of the loser
@@ -50,12 +50,12 @@ pub record Tried (b : Board) (es : List ℕ) (w x free must lost : ℕ) : Type 0
 
 module _ {b : Board} {es : List ℕ} (n : Numbered b es) (w : ℕ) (side : Side w) where
   -- What is forced within a carrier is forced on every board that is laid at least as well.
-  pub forced_by : (x c : ℕ) {t : ℕ} {g : ℕ → ℕ} {d : Board} → Forces w (held b es w x c) t → Laid b es g d →
+  pub forced_by : (x c : ℕ) {t : ℕ} {g : ℕ → ℕ} {d : Board} → Forces w (board_within b es w x c) t → Laid b es g d →
       ((k : ℕ) → k < length es → Up w (mark w x c k) (g k)) → Forces w d t
   forced_by x c {d = d} f ld up = better w side f d (laid_better w (laid n (mark w x c)) ld up)
 
   -- a carrier may be larger than it need be
-  pub forced_more : (x c e : ℕ) {t : ℕ} → Within c e → Forces w (held b es w x c) t → Forces w (held b es w x e) t
+  pub forced_more : (x c e : ℕ) {t : ℕ} → Within c e → Forces w (board_within b es w x c) t → Forces w (board_within b es w x e) t
   forced_more x c e h f = forced_by x c f (laid n (mark w x e)) (λ k _. mark_more w x c e k h)
 
   -- A win by a move after which the winner stands: the carrier is that of the stand, and the cell moved to.
@@ -83,11 +83,11 @@ module _ {b : Board} {es : List ℕ} (n : Numbered b es) (w : ℕ) (side : Side 
   }
 
   -- the empty cells of such a board are those of the carrier that have no stone of w
-  pub empty_is : (x c i : ℕ) → i < length (held b es w x c).cells → at (held b es w x c) i ≡ 0 →
+  pub empty_is : (x c i : ℕ) → i < length (board_within b es w x c).cells → at (board_within b es w x c) i ≡ 0 →
       (k : ℕ) × (k < length es) × (get_or es k 0 ≡ i) × (bit k x ≡ 0) × (bit k c ≡ 1)
   empty_is x c i l z = go (where_is es i)
     where
-      now : Laid b es (mark w x c) (held b es w x c)
+      now : Laid b es (mark w x c) (board_within b es w x c)
       now = laid n (mark w x c)
 
       sort : (k : ℕ) → mark w x c k ≡ 0 → (bit k x ≡ 1) ⊎ (bit k x ≡ 0) → (bit k c ≡ 1) ⊎ (bit k c ≡ 0) → (bit k x ≡ 0) × (bit k c ≡ 1)
@@ -97,7 +97,7 @@ module _ {b : Board} {es : List ℕ} (n : Numbered b es) (w : ℕ) (side : Side 
 
       go : ((k : ℕ) × (k < length es) × (get_or es k 0 ≡ i)) ⊎ ((k : ℕ) → k < length es → get_or es k 0 ≢ i) → (k : ℕ) × (k < length es) × (get_or es k 0 ≡ i) × (bit k x ≡ 0) × (bit k c ≡ 1)
       go (inl (k, m, same)) =
-          let (p, q) = sort k (sym (now.on k m) ∙ ap (at (held b es w x c)) same ∙ z) (in_or_out k x) (in_or_out k c) in (k, m, same, p, q)
+          let (p, q) = sort k (sym (now.on k m) ∙ ap (at (board_within b es w x c)) same ∙ z) (in_or_out k x) (in_or_out k c) in (k, m, same, p, q)
       go (inr out) =
           let (k, m, same) = n.all i (omega (arith, now.long)) (sym (now.off i out) ∙ z) in absurd (out k m same)
 
@@ -106,7 +106,7 @@ module _ {b : Board} {es : List ℕ} (n : Numbered b es) (w : ℕ) (side : Side 
   tried_all x free lost k h i = go (empty_or_full now.cells)
     where
       now : Board
-      now = held b es w x lost
+      now = board_within b es w x lost
 
       -- whatever the other does, there is a win that it has left out
       reply : (j : ℕ) → j < length es → bit j lost ≡ 1 → bit j x ≡ 0 → Forces w (put now (other w) (get_or es j 0)) w

@@ -10,7 +10,7 @@ use Rattle.theorems.proofs.Better.{better_connects}
 use Rattle.theorems.proofs.NeverNeither.{never_neither_lem}
 use Rattle.endgame.specs.declared.links.Links.{Links}
 use Rattle.endgame.specs.Floods.{Joins}
-use Rattle.endgame.specs.Ends.{lay, mark, held, Node, Ending}
+use Rattle.endgame.specs.Ends.{lay, mark, board_within, Node, Ending}
 use Rattle.endgame.proofs.Carried.{mark_stone, mark_other, mark_empty, empty_is}
 use Rattle.endgame.proofs.Laying.{laid, laid_better}
 
@@ -30,9 +30,9 @@ mark_small w x c k side = go (in_or_out k x) (in_or_out k c)
 
 module _ {e : ℕ} {b : Board} {es : List ℕ} {s : ℕ} {mine theirs : Links} (end : Ending e b es s mine theirs) where
   -- with no cell free, the board on which the one side's stones are judged is that of the other's
-  same_board : {x y : ℕ} → Node e x y 0 → Connects (held b es s x 0) (other s) → Connects (held b es (other s) y 0) (other s)
+  same_board : {x y : ℕ} → Node e x y 0 → Connects (board_within b es s x 0) (other s) → Connects (board_within b es (other s) y 0) (other s)
   same_board {x} {y} n =
-      better_connects (other s) (other_side s end.side) (held b es s x 0) (held b es (other s) y 0)
+      better_connects (other s) (other_side s end.side) (board_within b es s x 0) (board_within b es (other s) y 0)
       (laid_better (other s) (laid end.numbered (mark s x 0)) (laid end.numbered (mark (other s) y 0)) (λ k l. inl (alike k (n.each k (omega (arith, end.many))) (in_or_out k x))))
     where
       alike : (k : ℕ) → bit k x + (bit k y + bit k 0) ≡ 1 → (bit k x ≡ 1) ⊎ (bit k x ≡ 0) → mark (other s) y 0 k ≡ mark s x 0 k
@@ -42,23 +42,23 @@ module _ {e : ℕ} {b : Board} {es : List ℕ} {s : ℕ} {mine theirs : Links} (
   -- nobody has connected, so the board is not full
   not_full : {x y : ℕ} → Node e x y 0 → (Joins mine x → ⊥) → (Joins theirs y → ⊥) → ⊥
   unfolding NeverNeither
-  not_full {x} {y} n apart-mine apart-theirs = who end.side (never_neither_lem (held b es s x 0) (good_lay b (mark s x 0) es (λ k. mark_small s x 0 k end.side) end.good) (none (empty_or_full (held b es s x 0).cells)))
+  not_full {x} {y} n apart-mine apart-theirs = who end.side (never_neither_lem (board_within b es s x 0) (good_lay b (mark s x 0) es (λ k. mark_small s x 0 k end.side) end.good) (none (empty_or_full (board_within b es s x 0).cells)))
     where
-      none : EmptyIn (held b es s x 0).cells ⊎ (empties (held b es s x 0).cells ≡ 0) → empties (held b es s x 0).cells ≡ 0
+      none : EmptyIn (board_within b es s x 0).cells ⊎ (empties (board_within b es s x 0).cells ≡ 0) → empties (board_within b es s x 0).cells ≡ 0
       none (inr z) = z
       none (inl (i, l, z)) = let (k, m, same, out, in-none) = empty_is end.numbered s end.side x 0 i l z in absurd (omega (arith, bit_none k))
 
-      own : Connects (held b es s x 0) s → ⊥
+      own : Connects (board_within b es s x 0) s → ⊥
       own c = apart-mine (end.own.joins x n.position.mine_fits c)
 
-      others : Connects (held b es s x 0) (other s) → ⊥
+      others : Connects (board_within b es s x 0) (other s) → ⊥
       others c = apart-theirs (end.others.joins y n.position.theirs_fits (same_board n c))
 
-      who : Side s → Connects (held b es s x 0) 1 ⊎ Connects (held b es s x 0) 2 → ⊥
-      who (inl one) (inl c) = own (subst (Connects (held b es s x 0)) (sym one) c)
-      who (inl one) (inr c) = others (subst (Connects (held b es s x 0)) (omega arith) c)
-      who (inr two) (inl c) = others (subst (Connects (held b es s x 0)) (omega arith) c)
-      who (inr two) (inr c) = own (subst (Connects (held b es s x 0)) (sym two) c)
+      who : Side s → Connects (board_within b es s x 0) 1 ⊎ Connects (board_within b es s x 0) 2 → ⊥
+      who (inl one) (inl c) = own (subst (Connects (board_within b es s x 0)) (sym one) c)
+      who (inl one) (inr c) = others (subst (Connects (board_within b es s x 0)) (omega arith) c)
+      who (inr two) (inl c) = others (subst (Connects (board_within b es s x 0)) (omega arith) c)
+      who (inr two) (inr c) = own (subst (Connects (board_within b es s x 0)) (sym two) c)
 
   pub some_free : {x y : ℕ} (free : ℕ) → Node e x y free → (Joins mine x → ⊥) → (Joins theirs y → ⊥) → (k : ℕ) × (bit k free ≡ 1)
   some_free zero n apart-mine apart-theirs = absurd (not_full n apart-mine apart-theirs)

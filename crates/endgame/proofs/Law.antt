@@ -14,7 +14,7 @@ use Rattle.endgame.specs.declared.links.Links.{Links}
 use Rattle.endgame.specs.Floods.{Mutual, Touched, begun, onward, Joins}
 use Rattle.endgame.specs.Linked.{Tied, direct, through, Bound, own, across, Linked}
 use Rattle.endgame.specs.Ends.{Numbered}
-use Rattle.endgame.specs.Ends.{mark, held, Describes}
+use Rattle.endgame.specs.Ends.{mark, board_within, Describes}
 use Rattle.endgame.proofs.Carried.{mark_stone, mark_other}
 use Rattle.endgame.proofs.Laying.{Laid, laid, where_is}
 
@@ -50,7 +50,7 @@ module _ {b : Board} {es : List ℕ} (n : Numbered b es) (w : ℕ) (side : Side 
 
   module _ (x : ℕ) (fits : x < 2 ^ length es) where
     abbrev c : Board
-    c = held b es w x 0
+    c = board_within b es w x 0
 
     laid_c : Laid b es (mark w x 0) c
     laid_c = laid n (mark w x 0)

@@ -8,3 +8,10 @@ pub mod Nodes
 pub mod Full
 pub mod Searching
 pub mod Law
+pub mod Numbering
+pub mod Gathered
+pub mod Ties
+pub mod Preparing
+pub mod Starting
+pub mod Judging
+pub mod Once

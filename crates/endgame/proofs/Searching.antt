@@ -15,9 +15,13 @@ use Rattle.endgame.specs.declared.search.Cut.{Cut}
 use Rattle.endgame.specs.declared.search.Found.{Found}
 use Rattle.endgame.specs.declared.search.Found.TheVariants.{Won, Lost}
 use Rattle.endgame.specs.declared.search.Position.{Position}
+use Rattle.endgame.specs.declared.winner.Winner.{Winner}
+use Rattle.endgame.specs.declared.winner.Winner.TheVariants.{Mover, Other}
+use Rattle.endgame.specs.Findings.{found_of}
+use Rattle.endgame.specs.Winners.{entry_of}
 use Rattle.endgame.specs.Floods.{Joins, Completes, Completions}
 use Rattle.endgame.specs.Replies.{Replied}
-use Rattle.endgame.specs.Ends.{Wins, Stands, Node, Describes, Ending, Turn, Known, unknown, won, lost, Sound, Told, Tells, moved}
+use Rattle.endgame.specs.Ends.{Wins, Stands, Node, Describes, Ending, Turn, IsKnown, unknown, won, lost, IsSound, IsTold, Tells, position_after}
 use Rattle.endgame.proofs.Carried.{Tried, forced_more, win, tried_more, tried_all}
 use Rattle.endgame.proofs.Joining.{completes_joins, joins_completes}
 use Rattle.endgame.proofs.Nodes.{no_stone, same_free, turn_after, turn_once}
@@ -50,8 +54,8 @@ pub record Searching (e : ℕ) (mine theirs : Links) (p : Position) (t u : List 
   pub inside : Within must p.free
   pub within : Within lost p.free
   pub so_far : (b : Board) (es : List ℕ) (a s : ℕ) → Ending e b es s mine theirs → Turn a s p.mine p.theirs →
-      (Joins mine p.mine → ⊥) → (Joins theirs p.theirs → ⊥) → Sound e b es a t →
-      Tried b es (other s) p.theirs p.free must lost × Sound e b es a u
+      (Joins mine p.mine → ⊥) → (Joins theirs p.theirs → ⊥) → IsSound e b es a t →
+      Tried b es (other s) p.theirs p.free must lost × IsSound e b es a u
 
 -- at first: only what the threats leave must be tried
 pub searching_none : (e : ℕ) (mine theirs : Links) (p : Position) (t : List ℕ) {threats : ℕ} {cut : Cut} → Node e p.mine p.theirs p.free →
@@ -74,7 +78,7 @@ searching_none e mine theirs p t {cut = cut} node c r = record {
 
 -- A table with one more entry, that is so, is sound.
 sound_put : {e : ℕ} {b : Board} {es : List ℕ} (a s x y free v : ℕ) (u w : List ℕ) → Node e x y free → Turn a s x y → Put u w (place e x y) v →
-    Known b es s x y free v → Sound e b es a u → Sound e b es a w
+    IsKnown b es s x y free v → IsSound e b es a u → IsSound e b es a w
 sound_put {e} {b} {es} a s x y free v u w node turn written known sound r z q f turn' node' =
     ⊎_elim
     (λ same. let (ez, eq) = place_once e z q x y node'.position node.position same in
@@ -90,9 +94,9 @@ module _ {e : ℕ} {mine theirs : Links} {p : Position} {t u : List ℕ} {must o
   here : bit k p.free ≡ 1
   here = h.inside k of
 
-  told_then : {v : List ℕ} {next : Found} → Tells e theirs mine (moved p (2 ^ k)) u v next → (b : Board) (es : List ℕ) (a s : ℕ) → Ending e b es s mine theirs →
-      Turn a s p.mine p.theirs → (Joins mine p.mine → ⊥) → (Joins theirs p.theirs → ⊥) → Sound e b es a u →
-      Told b es (other s) p.theirs (p.mine + 2 ^ k) (p.free - 2 ^ k) next × Sound e b es a v
+  told_then : {v : List ℕ} {next : Found} → Tells e theirs mine (position_after p (2 ^ k)) u v next → (b : Board) (es : List ℕ) (a s : ℕ) → Ending e b es s mine theirs →
+      Turn a s p.mine p.theirs → (Joins mine p.mine → ⊥) → (Joins theirs p.theirs → ⊥) → IsSound e b es a u →
+      IsTold b es (other s) p.theirs (p.mine + 2 ^ k) (p.free - 2 ^ k) next × IsSound e b es a v
   told_then tells b es a s end turn apart others sound =
       let out = (no_stone node k here).1 in
       tells.of b es a (other s) (swapped end) (turn_after a s p.mine p.theirs k end.side out turn) others (still_apart end k out here c none apart) sound
@@ -101,7 +105,7 @@ module _ {e : ℕ} {mine theirs : Links} {p : Position} {t u : List ℕ} {must o
   smaller carrier inside j i = ⊎_elim (λ q. absurd (omega (arith, inside j i))) (λ q. sym q.1 ∙ inside j i) (bit_less k p.free here j)
 
   -- the other wins after it: what must be tried is cut down to the carrier of that win
-  pub searching_cut : {v : List ℕ} {carrier : ℕ} {step : Option ℕ} → Within carrier (p.free - 2 ^ k) → Tells e theirs mine (moved p (2 ^ k)) u v (Won carrier step) →
+  pub searching_cut : {v : List ℕ} {carrier : ℕ} {step : Option ℕ} → Within carrier (p.free - 2 ^ k) → Tells e theirs mine (position_after p (2 ^ k)) u v (Won carrier step) →
       Searching e mine theirs p t v (bit_and must carrier) (bit_or lost carrier)
   searching_cut {carrier = carrier} inside tells = record {
     inside = λ j i. h.inside j (in_and j must carrier i).0;
@@ -117,7 +121,7 @@ module _ {e : ℕ} {mine theirs : Links} {p : Position} {t u : List ℕ} {must o
   won_within carrier inside j i = ⊎_elim (smaller carrier inside j) (one_within k p.free here j) (in_or j carrier (2 ^ k) i)
 
   -- this is written into the table
-  pub searching_won : {v : List ℕ} {carrier : ℕ} (w : List ℕ) → Within carrier (p.free - 2 ^ k) → Tells e theirs mine (moved p (2 ^ k)) u v (Lost carrier) → Put v w (place e p.mine p.theirs) 1 →
+  pub searching_won : {v : List ℕ} {carrier : ℕ} (w : List ℕ) → Within carrier (p.free - 2 ^ k) → Tells e theirs mine (position_after p (2 ^ k)) u v (Lost carrier) → Put v w (place e p.mine p.theirs) 1 →
       Tells e mine theirs p t w (Won (bit_or carrier (2 ^ k)) (Some k))
   searching_won {v} {carrier} w inside tells written = record {
     of = λ b es a s end turn apart others sound.
@@ -148,7 +152,7 @@ module _ {e : ℕ} {mine theirs : Links} {p : Position} {t u : List ℕ} {lost :
     of = λ b es a s end turn apart others sound.
         let (stands, now) = searching_lost.of b es a s end turn apart others sound in
         let all = forced_more end.numbered (other s) (other_side s end.side) p.theirs lost p.free h.within stands in
-        (stands, sound_put a s p.mine p.theirs p.free 2 u w node turn written (Known.lost refl all) now);
+        (stands, sound_put a s p.mine p.theirs p.free 2 u w node turn written (IsKnown.lost refl all) now);
   }
 
 -- A cell that connects at once is taken.
@@ -163,10 +167,16 @@ told_at_once e mine theirs p t k node c h = record {
 
 -- What the table knows is told.
 module _ (e : ℕ) (mine theirs : Links) (p : Position) (t : List ℕ) (node : Node e p.mine p.theirs p.free) where
-  known_loss : {b : Board} {es : List ℕ} {s v : ℕ} → v ≡ 2 → Known b es s p.mine p.theirs p.free v → Stands b es (other s) p.theirs p.free
+  known_loss : {b : Board} {es : List ℕ} {s v : ℕ} → v ≡ 2 → IsKnown b es s p.mine p.theirs p.free v → Stands b es (other s) p.theirs p.free
   known_loss e (unknown z) = absurd (omega arith)
   known_loss e (won one wins) = absurd (omega arith)
   known_loss e (lost two stands) = stands
 
-  pub told_lost : entry t (place e p.mine p.theirs) ≡ 2 → Tells e mine theirs p t t (Lost p.free)
-  told_lost is = record { of = λ b es a s end turn apart others sound. (known_loss is (sound s p.mine p.theirs p.free turn node), sound) }
+  known_win : {b : Board} {es : List ℕ} {s v : ℕ} → v ≡ 1 → IsKnown b es s p.mine p.theirs p.free v → Wins b es s p.mine p.free
+  known_win e (unknown z) = absurd (omega arith)
+  known_win e (won one wins) = wins
+  known_win e (lost two stands) = absurd (omega arith)
+
+  pub told_known : (winner : Winner) → entry t (place e p.mine p.theirs) ≡ entry_of winner → Tells e mine theirs p t t (found_of winner p.free)
+  told_known Mover is = record { of = λ b es a s end turn apart others sound. ((known_win is (sound s p.mine p.theirs p.free turn node), tt), sound) }
+  told_known Other is = record { of = λ b es a s end turn apart others sound. (known_loss is (sound s p.mine p.theirs p.free turn node), sound) }

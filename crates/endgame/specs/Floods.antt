@@ -54,4 +54,7 @@ common x y = cond (nat_lt 0 (bit_and x y)) 1 0
 pub record Weighs (l : Links) (k x free w : ℕ) : Type 0 where
   pub reached : ℕ
   pub floods : Flood l.near (slice_index l.near k) x reached
-  pub is : w ≡ count_ones (bit_and reached free) + 2 * common (bit_or (bit_and reached x) (2 ^ k)) l.first + 2 * common (bit_or (bit_and reached x) (2 ^ k)) l.last
+  pub is : w
+      ≡ count_ones (bit_and reached free)
+      + 2 * common (bit_or (bit_and reached x) (2 ^ k)) l.first
+      + 2 * common (bit_or (bit_and reached x) (2 ^ k)) l.last

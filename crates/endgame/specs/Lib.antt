@@ -1,3 +1,6 @@
+pub mod Cells
+pub mod Gathering
+pub mod Grouped
 pub mod Floods
 pub mod Winners
 pub mod Findings
@@ -5,4 +8,8 @@ pub mod Ends
 pub mod Replies
 pub mod Choices
 pub mod Linked
+pub mod Prepared
 pub mod Searched
+pub mod Efforts
+pub mod Searches
+pub mod Verdicts

@@ -15,15 +15,14 @@ pub struct Links {
 }
 
 impl Links {
-    // The cells that the flood from a set of cells touches: those, and what is near a touched stone. That stones stand on cells of an end
-    // is asked here and in the two methods below, and is no type: sets are joined and cut as numbers in every step of the search.
+    // The cells that the flood from a set of cells touches: those, and what is near a touched stone.
     fn flood(&self, from: u64, stones: u64) -> u64
         requires { stones < 2 ^ 16 }
         ensures { Flood self.now.near from stones result }
     {
         let mut touched = from;
         let mut rest = stones;
-        // Not a walk over the cells of a set: what is touched grows on the way.
+        // What is touched grows on the way.
         while touched & rest > 0 {
             let k = lowest(touched & rest);
             rest -= one(k);

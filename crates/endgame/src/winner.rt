@@ -3,14 +3,14 @@ ghost use Rattle.std.specs.Prelude.{◌≡◌};
 ghost use Rattle.endgame.specs.Winners.{entry_of, Reads};
 
 // The side to move, or the other.
-#[derive(Clone, Copy, PartialEq, Eq, Debug)]
+#[derive(Clone, Copy)]
 pub enum Winner {
     Mover,
     Other,
 }
 
 impl Winner {
-    // The winner that an entry tells, if it tells one. This is no TryFrom, since an entry that tells none yet is no error.
+    // The winner that an entry tells, if it tells one.
     pub fn of_entry(entry: u8) -> Option<Winner>
         ensures { Reads entry result }
     {

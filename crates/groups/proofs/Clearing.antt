@@ -5,7 +5,7 @@ use Rattle.std.proofs.lemmas.Bool.{cases_eq, cases_lt}
 use Rattle.hexboard.specs.Board.{all_cells}
 use Rattle.hexboard.specs.Words.{words}
 use Rattle.groups.specs.Forest.{parent}
-use Rattle.groups.specs.Moves.{count_from, played, Kept}
+use Rattle.groups.specs.Stones.{count_from, KeepsGroups}
 use Rattle.hexboard.proofs.TwoBytes.{words_length}
 use Rattle.groups.proofs.Positions.{bare_parent, count_length}
 
@@ -33,6 +33,5 @@ cleared_all k m mem long far h =
     ∙ h i (omega arith)
     ∙ sym (get_or_default (count_from 0 k) i d i (omega (arith, count_length 0 k)) ∙ bare_parent k i))
 
-pub cleared_kept : (n m : ℕ) (mem bs : List ℕ) → length mem ≡ n * n * 2 → bs ≡ all_cells (n * n) → n * n ≤ m → Cleared m (words mem) → Kept n [] mem bs
-unfolding played
+pub cleared_kept : (n m : ℕ) (mem bs : List ℕ) → length mem ≡ n * n * 2 → bs ≡ all_cells (n * n) → n * n ≤ m → Cleared m (words mem) → KeepsGroups n [] mem bs
 cleared_kept n m mem bs long none far h = λ i. record { parents = cleared_all (n * n) m mem long far h i; borders = none i }

@@ -8,5 +8,6 @@ pub mod Ways
 pub mod Lifting
 pub mod Positions
 pub mod Theorems
+pub mod InTurn
 pub mod Clearing
 pub mod Behind

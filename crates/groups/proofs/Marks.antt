@@ -23,7 +23,7 @@ has_right k a b h = omega (arith, or_bit k a b)
 pub has_either : (k a b : ℕ) → Has k (bit_or a b) → Has k a ⊎ Has k b
 has_either k a b h = ⊎_elim inl (λ n. inr (omega (arith, or_bit k a b))) (cases_eq (a / 2 ^ k % 2) 1)
 
--- A byte has both bits just if each is set.
+-- A byte has both bits exactly when each is set.
 pub both_bits : (v : ℕ) → Both v → Has 0 v × Has 1 v
 both_bits v h = omega arith
 

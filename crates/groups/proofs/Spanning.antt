@@ -24,7 +24,7 @@ module _ {near : ℕ → ℕ → Bool} (both_ways : (i j : ℕ) → near i j ≡
   one_root t n (here o e) = ap (root f.parents) e
   one_root t n (step {i = i} {j = j} o c row) = g.meets i j (t, n, o, first_own near row, c) ∙ one_root t n row
 
-  -- Two stones of a side have one root just if a row leads from one to the other: by way of the root.
+  -- Two stones of a side have one root exactly when a row leads from one to the other: by way of the root.
   pub same_root : (t i j : ℕ) → t ≢ 0 → Stone b t i → Stone b t j → ((root f.parents i ≡ root f.parents j) ↔ Chain near (Stone b t) i j)
   same_root t i j n o p =
       (λ e. and_then near (subst (Chain near (Stone b t) i) e (g.hangs t i n o)) (turned near both_ways (g.hangs t j n p)), one_root t n)
@@ -43,7 +43,7 @@ module _ {near : ℕ → ℕ → Bool} (both_ways : (i j : ℕ) → near i j ≡
       bits_both _ (g.shows t p.from 0 n (first_own near p.row) p.first)
       (rw (one_root t n p.row) (g.shows t p.to 1 n (last_own near p.row) p.last))
 
-  -- A side spans just if some group of it has both bits.
+  -- A side spans exactly when some group of it has both bits.
   pub spans : (t : ℕ) → t ≢ 0 → (Spanning near bits b t ↔ Spans b t f)
   spans t n = (
     λ p.
@@ -82,7 +82,7 @@ module _ {near : ℕ → ℕ → Bool} (both_ways : (i j : ℕ) → near i j ≡
     row_before (step {i = i} {j = j} o c row) d =
         step (old_stone i o d) c (row_before row (λ e. d (g.meets i j (s, side, o, first_own near row, c) ∙ e)))
 
-    -- If side s did not span before, it does now just if the new stone's byte has both bits.
+    -- If side s did not span before, it does now exactly when the new stone's byte has both bits.
     pub byte_decides : (Spanning near bits b s → ⊥) → (Spanning near bits (put b s x) s ↔ Both (get_or f.borders x 0))
     byte_decides not_yet = (
       λ p.

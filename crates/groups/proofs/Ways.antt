@@ -65,6 +65,6 @@ row_way b s p =
     let stone = stone_test b s p.from (first_own (next_to b.wide) p.row) in
     (p.from ∷ js, and_from _ _ (and_from (begins b.wide s p.from) (is_stone b s p.from) ((first_bit b.wide s p.from).1 p.first) stone) on)
 
--- A side has connected just if a row of its stones leads from its first border to its last.
+-- A side has connected exactly when a row of its stones leads from its first border to its last.
 pub connects : (b : Board) (s : ℕ) → Connects b s ↔ Spanning (next_to b.wide) (touch b.wide) b s
 connects b s = (λ c. way_row b s c.0 c.1, row_way b s)

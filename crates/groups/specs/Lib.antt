@@ -1,4 +1,5 @@
 pub mod Forest
+pub mod Stones
 pub mod Moves
 pub mod Meaning
 pub mod Lent

@@ -68,7 +68,7 @@ unfolding neighbour_of
 leads_neighbour n i k j h g (down, right, (s, p, q)) = simp (lt-ltb i (n * n) h, s, p, q) (in_place n j g)
 
 -- Each of the six steps leads to a cell that is next to the first.
-leads_next : (n i j k : ℕ) → Leads k (i / n) (i % n) (j / n) (j % n) → next_to n i j ≡ true
+pub leads_next : (n i j k : ℕ) → Leads k (i / n) (i % n) (j / n) (j % n) → next_to n i j ≡ true
 leads_next n i j k (down, right, (s, p, q)) = grind (arith, nat_tests, ints)
 
 -- One of six is at hand where one of the tests holds.
@@ -82,7 +82,7 @@ one_of_six false false false false true x a b c d e f h = e refl
 one_of_six false false false false false x a b c d e f h = f h
 
 -- Of two cells that are next to each other one of the six steps leads to the other.
-next_leads : (n i j : ℕ) → next_to n i j ≡ true → (k : ℕ) × (k < 6) × Leads k (i / n) (i % n) (j / n) (j % n)
+pub next_leads : (n i j : ℕ) → next_to n i j ≡ true → (k : ℕ) × (k < 6) × Leads k (i / n) (i % n) (j / n) (j % n)
 next_leads n i j =
     one_of_six (right_of n i j) (right_of n j i) (below n i j) (below n j i) (up_right n i j) (up_right n j i)
     (λ h. (0, lit< tt, (pos 0, pos 1, grind (arith, nat_tests, ints))))

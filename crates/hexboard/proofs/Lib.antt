@@ -1,5 +1,5 @@
 pub mod Boards
 pub mod Adjacent
 pub mod Given
-pub mod Pairs
+pub mod Reading
 pub mod TwoBytes

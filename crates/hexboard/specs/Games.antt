@@ -84,3 +84,10 @@ pub data Right : Game → Call → Answer → Game → Type 0 where
   not_forced : {g : Game} → (Forces g.turn g.board g.turn → ⊥) → Right g can_force no g
   -- an end of a game with more than 16 empty cells may be too long to look through
   many : {g : Game} → 16 < empties g.board.cells → (Won g → ⊥) → Right g can_force too_many g
+
+-- AreRight g calls answers h: each of the answers is right for its call in the game that the calls
+-- before it have left, from game g on, and h is the game after all of them.
+pub data AreRight : Game → List Call → List Answer → Game → Type 0 where
+  no_calls : {g : Game} → AreRight g [] [] g
+  next_call : {g h k : Game} {c : Call} {a : Answer} {calls : List Call} {answers : List Answer} →
+      Right g c a h → AreRight h calls answers k → AreRight g (c ∷ calls) (a ∷ answers) k

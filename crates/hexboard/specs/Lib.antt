@@ -1,6 +1,8 @@
 pub mod Board
 pub mod Games
 pub mod Promise
+pub mod Laying
+pub mod Shapes
 pub mod Geometry
 pub mod Rows
 pub mod Sides

@@ -10,5 +10,5 @@ mod words;
 pub use geometry::{Neighbours, borders, directions, neighbour};
 pub use side::{NoSide, Side};
 pub use size::Size;
-pub use stones::{Unplaced, clear, count_empty, first_pair, lift, place, stone};
+pub use stones::{Unplaced, clear, lift, place, stone};
 pub use words::{Words, set_word, word};

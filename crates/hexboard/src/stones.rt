@@ -1,14 +1,12 @@
 // Stones on a board in lent bytes, one byte to a cell: 0 for an empty cell, else the number of the side whose stone stands there.
-ghost use Rattle.std.specs.Prelude.{◌≡◌, ℕ, ◌+◌, ◌*◌, ◌<◌, length, Ok, MatchOption, slice_set};
+ghost use Rattle.std.specs.Prelude.{◌≡◌, ℕ, ◌+◌, ◌*◌, ◌<◌, length, Ok, slice_set};
 ghost use Rattle.hexboard.specs.Board.{empty, empties, all_cells};
 ghost use Rattle.hexboard.specs.Geometry.{laid};
 ghost use Rattle.hexboard.specs.Promise.{Good};
 ghost use Rattle.hexboard.specs.Sides.{number};
-ghost use Rattle.hexboard.specs.Stones.{stone_at, placing, placed, NoPair, FirstPair};
+ghost use Rattle.hexboard.specs.Stones.{stone_at, placing, placed};
 
-use crate::geometry::Neighbours;
 use crate::side::Side;
-use crate::size::Size;
 
 // Why a stone was not put on a cell.
 #[derive(Clone, Copy, PartialEq, Eq, Debug)]
@@ -57,13 +55,6 @@ pub fn lift(cells: &mut [u8], cell: u16) -> Option<Side>
     Side::try_from(byte).ok()
 }
 
-// How many cells are empty.
-pub fn count_empty(cells: &[u8]) -> usize
-    ensures value { result ≡ empties cells.now }
-{
-    cells.iter().filter(|byte| **byte == 0).count()
-}
-
 // Takes all stones off.
 pub fn clear(cells: &mut [u8])
     ensures after { cells.new ≡ all_cells (length cells.old) }
@@ -71,25 +62,4 @@ pub fn clear(cells: &mut [u8])
     ensures good { (n : ℕ) → 0 < n → length cells.old ≡ n * n → Good (laid n cells.new) }
 {
     cells.fill(0);
-}
-
-// The first stone that has a neighbour of its own side, and the first such neighbour in the order of `neighbour`. None if no two
-// stones of one side are next to each other.
-pub fn first_pair(size: Size, cells: &[u8]) -> Option<(u16, u16)>
-    ensures { MatchOption result (NoPair (laid size.n cells.now)) (λ p. FirstPair (laid size.n cells.now) p.0 p.1) }
-{
-    let mut found = None;
-    // Both loops are left from inside, by the label: no plainer by `find_map` and `find`, whose closures would have to tell both cells.
-    'cells: for i in 0..size.cells() {
-        let Some(side) = stone(cells, i) else {
-            continue 'cells;
-        };
-        for j in Neighbours::of(size, i) {
-            if stone(cells, j) == Some(side) {
-                found = Some((i, j));
-                break 'cells;
-            }
-        }
-    }
-    found
 }

@@ -5,9 +5,11 @@ use Rattle.std.proofs.str.Laws.{order}
 use Rattle.hexboard.specs.Board.{all_cells}
 use Rattle.hexboard.specs.Words.{words}
 use Rattle.groups.specs.Forest.{held}
-use Rattle.groups.specs.Moves.{start, is_free, board_of, turn_of, forest_of, Legal}
+use Rattle.groups.specs.Stones.{is_free}
+use Rattle.groups.specs.Moves.{board_of, turn_of, forest_of, Legal}
 use Rattle.groups.specs.Meaning.{Open}
-use Rattle.groups.proofs.Positions.{played_push, legal_push, legal_last, free_parts}
+use Rattle.groups.proofs.Positions.{free_parts}
+use Rattle.groups.proofs.InTurn.{board_push, legal_push, legal_last}
 use Rattle.history.specs.Played.{Played, winner_of, Kept}
 use Rattle.history.proofs.Filling.{room}
 use Rattle.history.proofs.Turns.{winner_open}
@@ -52,12 +54,12 @@ module _ (n : ℕ) (ms : List ℕ) (x : ℕ) (stones log parents borders log' pa
   pub kept_more : Kept n ms stones log parents borders → Legal n ms → is_free (board_of n ms) x ≡ true →
       words log' ≡ set (words log) (length ms) x → length log' ≡ length log →
       held parents' borders' ≡ forest_of n (ms ++ x ∷ []) → length parents' ≡ length parents →
-      Kept n (ms ++ x ∷ []) (set stones x (turn_of n ms)) log' parents' borders'
+      Kept n (ms ++ x ∷ []) (set stones x (turn_of ms)) log' parents' borders'
   kept_more h legal is wrote log-same joined parents-same =
       let free = room n ms x legal is in
       let less : n * n - length ms - 1 ≡ n * n - length (ms ++ x ∷ []) = omega (arith, length_push ms x) in
       record {
-        stones_are = ap (λ (cs : List ℕ). set cs x (turn_of n ms)) h.stones_are ∙ ap (λ p. p.board.cells) (sym (played_push (start n) ms x));
+        stones_are = ap (λ (cs : List ℕ). set cs x (turn_of ms)) h.stones_are ∙ ap (λ b. b.cells) (sym (board_push n ms x));
         log_is = wrote ∙ (log_more (words log) ms x (n * n - length ms) h.log_is (omega arith) ∙ ap (λ k. (ms ++ x ∷ []) ++ all_cells k) less);
         log_long = log-same ∙ h.log_long;
         groups_are = joined;
@@ -74,8 +76,8 @@ module _ (n : ℕ) (ms : List ℕ) (x : ℕ) (stones log parents borders log' pa
       let more : suc (n * n - length (ms ++ x ∷ [])) ≡ n * n - length ms = omega (arith, length_push ms x) in
       record {
         stones_are =
-            ap (λ (cs : List ℕ). set cs x 0) (h.stones_are ∙ ap (λ p. p.board.cells) (played_push (start n) ms x)) ∙
-            (set-set (board_of n ms).cells x (turn_of n ms) 0 ∙ (ap (set (board_of n ms).cells x) (sym free.1) ∙ set-get_or (board_of n ms).cells x 0));
+            ap (λ (cs : List ℕ). set cs x 0) (h.stones_are ∙ ap (λ b. b.cells) (board_push n ms x)) ∙
+            (set-set (board_of n ms).cells x (turn_of ms) 0 ∙ (ap (set (board_of n ms).cells x) (sym free.1) ∙ set-get_or (board_of n ms).cells x 0));
         log_is = wrote ∙ (log_less (words log) ms x _ h.log_is ∙ ap (λ k. ms ++ all_cells k) more);
         log_long = log-same ∙ h.log_long;
         groups_are = lifted;

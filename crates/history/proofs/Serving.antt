@@ -12,14 +12,15 @@ use Rattle.hexboard.specs.declared.side.Side.{Side}
 use Rattle.hexboard.proofs.Boards.{number_few}
 use Rattle.hexboard.proofs.TwoBytes.{words_length}
 use Rattle.groups.specs.Forest.{held}
-use Rattle.groups.specs.Moves.{is_free, board_of, turn_of, forest_of}
+use Rattle.groups.specs.Stones.{is_free}
+use Rattle.groups.specs.Moves.{stones_of, board_of, turn_of, forest_of}
 use Rattle.groups.specs.Meaning.{Open}
 use Rattle.groups.proofs.Positions.{board_laid}
 use Rattle.groups.proofs.Theorems.{neither}
 use Rattle.history.specs.Played.{game_of, Played, winner_of, Kept}
 use Rattle.history.specs.Holds.{won_by, Memory, moves_in, formal, Holds, Served}
 use Rattle.history.specs.declared.game.Game.{Game}
-use Rattle.history.proofs.Filling.{room, turn_by_count}
+use Rattle.history.proofs.Filling.{room}
 use Rattle.history.proofs.Keeping.{played_more, kept_more}
 use Rattle.history.proofs.Turns.{game_push, winner_open, winner_won, winner_push}
 
@@ -95,8 +96,8 @@ module _ (g : Game) (m : Memory) (held-now : Holds g m) (x : ℕ) where
   nobody e = sym held-now.winner ∙ e
 
   -- the side to move, by the number of moves
-  pub mover : turn_of n ms ≡ pick (eqb (g.count % 2) 0) 1 2
-  mover = turn_by_count n ms ∙ ap (λ k. pick (eqb (k % 2) 0) 1 2) held-now.all
+  pub mover : turn_of ms ≡ pick (eqb (g.count % 2) 0) 1 2
+  mover = ap (λ k. pick (eqb (k % 2) 0) 1 2) held-now.all
 
   -- there is room in the log for one more
   pub room_in : x < length m.stones → get_or m.stones x 0 ≡ 0 → g.count < n * n
@@ -104,9 +105,9 @@ module _ (g : Game) (m : Memory) (held-now : Holds g m) (x : ℕ) where
 
   pub served_made : (h : Game) (k : Memory) → h.size ≡ g.size → h.count ≡ g.count + 1 →
       x < length m.stones → won_by g.winner ≡ 0 → get_or m.stones x 0 ≡ 0 →
-      k.stones ≡ set m.stones x (turn_of n ms) → words k.log ≡ set (words m.log) g.count x → length k.log ≡ length m.log →
+      k.stones ≡ set m.stones x (turn_of ms) → words k.log ≡ set (words m.log) g.count x → length k.log ≡ length m.log →
       held k.parents k.borders ≡ forest_of n (ms ++ x ∷ []) → length k.parents ≡ length m.parents →
-      won_by h.winner ≡ pick (eqb (get_or k.borders x 0 % 4) 3) (turn_of n ms) 0 →
+      won_by h.winner ≡ pick (eqb (get_or k.borders x 0 % 4) 3) (turn_of ms) 0 →
       Served g m (games.moves x) (games.number g.count) h k
   served_made h k size count on none bare stones wrote log-same joined parents-same won =
       let is = cell_free n ms m.stones x played_in stones_in on bare in
@@ -123,7 +124,7 @@ module _ (g : Game) (m : Memory) (held-now : Holds g m) (x : ℕ) where
         holds =
             holds_by h k n (ms ++ x ∷ []) (ap (λ z. z.n) size) moves (length_push ms x ∙ (ap (λ j. j + 1) held-now.all ∙ sym count)) now-played
             (subst (λ (cs : List ℕ). Kept n (ms ++ x ∷ []) cs k.log k.parents k.borders) (sym stones) more)
-            (won ∙ (ap (λ f. pick (eqb (get_or f.borders x 0 % 4) 3) (turn_of n ms) 0) joined ∙ sym (winner_push n ms x now-played)));
+            (won ∙ (ap (λ f. pick (eqb (get_or f.borders x 0 % 4) 3) (turn_of ms) 0) joined ∙ sym (winner_push n ms x now-played)));
         same_size = size;
       }
 
@@ -136,12 +137,12 @@ pub winner_connects : (g : Game) (m : Memory) → Holds g m → (side : Side) �
     Connects (laid g.size.n m.stones) (number side) × ((number side ≡ 1) ⊎ (number side ≡ 2))
 winner_connects g m h side e =
     let told = winner_won g.size.n (moves_in g m) h.played (number side) (sym h.winner ∙ e) (some_side side) in
-    (subst (λ b. Connects b (number side)) (sym (board_laid g.size.n (moves_in g m) m.stones h.kept.stones_are)) told.0, told.1)
+    (subst (λ b. Connects b (number side)) (sym (board_laid g.size.n (stones_of (moves_in g m)) m.stones h.kept.stones_are)) told.0, told.1)
 
 -- a way of the winner on the board of the stones is a right answer to who has connected
 pub right_way : (g : Game) (m : Memory) → Holds g m → (s : ℕ) (w : List ℕ) → (s ≡ 1) ⊎ (s ≡ 2) → is_way (laid g.size.n m.stones) s w ≡ true →
     length w ≤ length m.stones → games.Right (formal g m) games.who (games.way s w) (formal g m)
 right_way g m h s w side way few =
     games.by_way s w side
-    (subst (λ b. is_way b s w ≡ true) (board_laid g.size.n (moves_in g m) m.stones h.kept.stones_are) way)
+    (subst (λ b. is_way b s w ≡ true) (board_laid g.size.n (stones_of (moves_in g m)) m.stones h.kept.stones_are) way)
     (subst (λ (cs : List ℕ). length w ≤ length cs) h.kept.stones_are few)

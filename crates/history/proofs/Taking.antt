@@ -8,7 +8,8 @@ use Rattle.hexboard.specs.Words.{words, word_of}
 use Rattle.hexboard.proofs.Boards.{all_cells_replicate}
 use Rattle.hexboard.proofs.TwoBytes.{words_length, words_cleared}
 use Rattle.groups.specs.Forest.{held}
-use Rattle.groups.specs.Moves.{played, is_fair, board_of, forest_of, Legal}
+use Rattle.groups.specs.Moves.{board_of, forest_of, Legal}
+use Rattle.groups.proofs.Positions.{legal_none}
 use Rattle.groups.specs.Meaning.{Open}
 use Rattle.groups.proofs.Theorems.{neither}
 use Rattle.history.specs.Played.{game_of, Played, winner_of, Kept}
@@ -104,12 +105,11 @@ module _ (g : Game) (m : Memory) (now-held : Holds g m) (last : ℕ) (one : last
 pub new_held : (n : ℕ) (g : Game) (m : Memory) → g.size.n ≡ n → g.count ≡ 0 → won_by g.winner ≡ 0 → m.stones ≡ all_cells (n * n) →
     m.log ≡ replicate (n * n * 2) 0 → held m.parents m.borders ≡ forest_of n [] → length m.parents ≡ n * n * 2 →
     Holds g m × (formal g m ≡ games.new_game n)
-unfolding played is_fair
 new_held n g m size none nobody stones log groups parents =
     let moves : moves_in g m ≡ [] = ap (λ k. take k (words m.log)) none in
     let all : n * n - 0 ≡ n * n = omega arith in
     let half : n * n * 2 / 2 ≡ n * n = omega arith in (
-      holds_by g m n [] size moves (sym none) (record { legal = refl; before = λ k l. absurd (omega arith) })
+      holds_by g m n [] size moves (sym none) (record { legal = legal_none n; before = λ k l. absurd (omega arith) })
           (record {
             stones_are = stones;
             log_is = ap words log ∙ (words_cleared (n * n * 2) ∙ ap (λ k. replicate k 0) half ∙ (all_cells_replicate (n * n) ∙ ap all_cells (sym all)));

@@ -3,14 +3,15 @@ use Rattle.std.proofs.Common.{◌≡◌, ℕ, ◌*◌, ◌<◌, true, List, leng
 use Rattle.std.proofs.lemmas.Bool.Decides.{nat_tests}
 use Rattle.hexboard.specs.Board.{at}
 use Rattle.hexboard.specs.Games as games
-use Rattle.groups.specs.Moves.{board_of, is_free}
+use Rattle.groups.specs.Stones.{is_free}
+use Rattle.groups.specs.Moves.{stones_of, board_of}
 use Rattle.hexboard.proofs.TwoBytes.{same_bytes}
-use Rattle.groups.proofs.Positions.{legal_push}
+use Rattle.groups.proofs.Positions.{board_wide}
+use Rattle.groups.proofs.InTurn.{legal_push}
 use Rattle.groups.proofs.Theorems.{kept_once}
 use Rattle.history.specs.Played.{Kept}
 use Rattle.history.specs.Holds.{Memory, lent, moves_in, formal}
 use Rattle.history.specs.Laws.{InBytes, MovesTell, BackToTheByte}
-use Rattle.history.proofs.Filling.{board_wide}
 use Rattle.history.proofs.Turns.{game_push, game_back}
 
 -- memory that holds these moves on a board n wide
@@ -22,13 +23,13 @@ same_memory : (n : ℕ) (ms : List ℕ) (m k : Memory) → Told n ms m → Told 
 same_memory n ms m k p q =
     let stones = p.kept.stones_are ∙ sym q.kept.stones_are in
     let log = same_bytes (n * n) m.log k.log p.kept.log_long q.kept.log_long p.bytes.log q.bytes.log (p.kept.log_is ∙ sym q.kept.log_is) in
-    let (parents, borders) = kept_once n ms m.parents m.borders k.parents k.borders (record { many = p.kept.parents_long; small = p.bytes.parents })
+    let (parents, borders) = kept_once n (stones_of ms) m.parents m.borders k.parents k.borders (record { many = p.kept.parents_long; small = p.bytes.parents })
     (record { many = q.kept.parents_long; small = q.bytes.parents }) p.kept.groups_are q.kept.groups_are in
     λ i. lent (stones i) (log i) (parents i) (borders i)
 
 pub moves_tell : MovesTell
 moves_tell g h m k bm bk p q e =
-    let n : g.size.n ≡ h.size.n = sym (board_wide g.size.n (moves_in g m)) ∙ (ap (λ f. f.board.wide) e ∙ board_wide h.size.n (moves_in h k)) in
+    let n : g.size.n ≡ h.size.n = sym (board_wide g.size.n (stones_of (moves_in g m))) ∙ (ap (λ f. f.board.wide) e ∙ board_wide h.size.n (stones_of (moves_in h k))) in
     let ms : moves_in g m ≡ moves_in h k = ap (λ f. f.moves) e in
     same_memory h.size.n (moves_in h k) m k
     (subst (λ j. Told j (moves_in h k) m) n (subst (λ (xs : List ℕ). Told g.size.n xs m) ms (record { kept = p.kept; bytes = bm }))) (record { kept = q.kept; bytes = bk })

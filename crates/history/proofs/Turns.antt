@@ -7,10 +7,13 @@ use Rattle.hexboard.specs.Board.{pick, Connects, put, other}
 use Rattle.hexboard.specs.Games as games
 use Rattle.hexboard.specs.Geometry.{laid}
 use Rattle.hexboard.proofs.Boards.{set_back}
-use Rattle.groups.specs.Moves.{Position, start, moved, is_free, position_of, board_of, turn_of, forest_of, Legal}
+use Rattle.groups.specs.Stones as stones
+use Rattle.groups.specs.Stones.{stone, is_free, AreLegal}
+use Rattle.groups.specs.Moves.{stones_of, board_of, turn_of, forest_of, Legal}
 use Rattle.groups.specs.Meaning.{Both, Open}
-use Rattle.groups.proofs.Positions.{played_push, legal_last, legal_sound, free_parts}
-use Rattle.groups.proofs.Theorems.{neither, one_byte_decides, open_at_first, open_still}
+use Rattle.groups.proofs.Positions.{of_both, free_parts}
+use Rattle.groups.proofs.InTurn.{stones_push, turn_push, turn_side, board_push, legal_last}
+use Rattle.groups.proofs.Theorems.{neither, one_byte_decides, open_at_first}
 use Rattle.history.specs.Played.{game_of, Played, winner_of}
 
 -- the last of a list that ends in x, and the list without it
@@ -25,21 +28,24 @@ but_last_push [] x = refl
 but_last_push (m ∷ []) x = refl
 but_last_push (m ∷ (k ∷ ms)) x = ap (λ (xs : List ℕ). m ∷ xs) (but_last_push (k ∷ ms) x)
 
--- the game at a position that these moves have led to
-abbrev game_at : Position → List ℕ → games.Game
-game_at p ms = record { board = p.board; turn = p.turn; moves = ms }
-
 -- a move more in the game of the rules is a move more in the list
 pub game_push : (n : ℕ) (ms : List ℕ) (x : ℕ) → is_free (board_of n ms) x ≡ true →
     games.after (game_of n ms) (games.moves x) ≡ game_of n (ms ++ x ∷ [])
 unfolding games.after
 game_push n ms x is =
-    ap (λ t. pick {A = games.Game} t (game_at (moved (position_of n ms) x) (ms ++ x ∷ [])) (game_of n ms)) is ∙
-    ap (λ p. game_at p (ms ++ x ∷ [])) (sym (played_push (start n) ms x))
+    let made : games.Game = record { board = put (board_of n ms) (turn_of ms) x; turn = other (turn_of ms); moves = ms ++ x ∷ [] } in
+    ap (λ t. pick {A = games.Game} t made (game_of n ms)) is ∙
+    λ i. record { board = sym (board_push n ms x) i; turn = sym (turn_push ms x) i; moves = ms ++ x ∷ [] }
 
 -- the side to move comes back after two moves
 other_other : (s : ℕ) → (s ≡ 1) ⊎ (s ≡ 2) → other (other s) ≡ s
 other_other s h = omega arith
+
+-- the last stone taken off leaves the board as it was before it
+board_back : (n : ℕ) (ms : List ℕ) (x : ℕ) → is_free (board_of n ms) x ≡ true → put (board_of n (ms ++ x ∷ [])) 0 x ≡ board_of n ms
+board_back n ms x is =
+    let b = board_of n ms in
+    ap (λ c. put c 0 x) (board_push n ms x) ∙ ap (laid b.wide) (set_back b.cells x (turn_of ms) (free_parts b x is).1)
 
 -- and a move taken back is a move less
 pub game_back : (n : ℕ) (ms : List ℕ) (x : ℕ) → Legal n (ms ++ x ∷ []) →
@@ -47,18 +53,16 @@ pub game_back : (n : ℕ) (ms : List ℕ) (x : ℕ) → Legal n (ms ++ x ∷ [])
 unfolding games.after
 game_back n ms x legal =
     let (before, is) = legal_last n ms x legal in
-    let p = position_of n ms in
     let long = length_push ms x in
     let some : eqb (length (ms ++ x ∷ [])) 0 ≡ false = grind (arith, nat_tests) in
-    let taken : Position → games.Game =
-    λ q. record { board = put q.board 0 (games.last_of 0 (ms ++ x ∷ [])); turn = other q.turn; moves = games.but_last (ms ++ x ∷ []) } in
-    ap (λ t. pick {A = games.Game} t (game_of n (ms ++ x ∷ [])) (taken (position_of n (ms ++ x ∷ [])))) some ∙
-    (ap taken (played_push (start n) ms x) ∙
+    let all = ms ++ x ∷ [] in
+    let taken : games.Game = record { board = put (board_of n all) 0 (games.last_of 0 all); turn = other (turn_of all); moves = games.but_last all } in
+    ap (λ t. pick {A = games.Game} t (game_of n all) taken) some ∙
     λ i. record {
-      board = (ap (put (moved p x).board 0) (last_push 0 ms x) ∙ ap (laid p.board.wide) (set_back p.board.cells x p.turn (free_parts p.board x is).1)) i;
-      turn = other_other p.turn (legal_sound n ms before).side i;
+      board = (ap (put (board_of n all) 0) (last_push 0 ms x) ∙ board_back n ms x is) i;
+      turn = (ap other (turn_push ms x) ∙ other_other (turn_of ms) (turn_side ms)) i;
       moves = but_last_push ms x i;
-    })
+    }
 
 -- a list is empty, or a list and one more
 pub by_last : (ms : List ℕ) → (ms ≡ []) ⊎ ((ks : List ℕ) × (x : ℕ) × (ms ≡ ks ++ x ∷ []))
@@ -72,7 +76,7 @@ module _ (n : ℕ) (ms : List ℕ) (x : ℕ) (h : Played n (ms ++ x ∷ [])) whe
   byte = get_or (forest_of n (ms ++ x ∷ [])).borders x 0
 
   abbrev mover : ℕ
-  mover = turn_of n ms
+  mover = turn_of ms
 
   pub open_before : Open (board_of n ms)
   open_before =
@@ -80,27 +84,31 @@ module _ (n : ℕ) (ms : List ℕ) (x : ℕ) (h : Played n (ms ++ x ∷ [])) whe
       subst (λ (xs : List ℕ). Open (board_of n xs)) (take_at ms (x ∷ []) (length ms) refl) (h.before (length ms) short)
 
   mover_side : (mover ≡ 1) ⊎ (mover ≡ 2)
-  mover_side = (legal_sound n ms (legal_last n ms x h.legal).0).side
+  mover_side = turn_side ms
 
   -- the byte of the last stone tells whether its side has connected, and the other side has not
   decides : (Connects (board_of n (ms ++ x ∷ [])) mover ↔ Both byte) × (Connects (board_of n (ms ++ x ∷ [])) (other mover) → ⊥)
-  decides = one_byte_decides n ms x h.legal open_before
+  decides =
+      subst
+      (λ ps. (Connects (stones.board_of n ps) mover ↔ Both (get_or (stones.forest_of n ps).borders x 0)) × (Connects (stones.board_of n ps) (other mover) → ⊥))
+      (sym (stones_push ms x))
+      (one_byte_decides n (stones_of ms) (stone mover x) (subst (AreLegal n) (stones_push ms x) h.legal) open_before)
 
   pub winner_push : winner_of n (ms ++ x ∷ []) ≡ pick (eqb (byte % 4) 3) mover 0
   winner_push =
       let long = length_push ms x in
       let some : eqb (length (ms ++ x ∷ [])) 0 ≡ false = grind (arith, nat_tests) in
-      let turn : other (turn_of n (ms ++ x ∷ [])) ≡ mover =
-      ap (λ p. other p.turn) (played_push (start n) ms x) ∙ other_other mover mover_side in
-      ap (λ t. pick t 0 (pick (eqb (get_or (forest_of n (ms ++ x ∷ [])).borders (games.last_of 0 (ms ++ x ∷ [])) 0 % 4) 3) (other (turn_of n (ms ++ x ∷ []))) 0)) some ∙
-      (ap (λ i. pick (eqb (get_or (forest_of n (ms ++ x ∷ [])).borders i 0 % 4) 3) (other (turn_of n (ms ++ x ∷ []))) 0) (last_push 0 ms x) ∙
+      let turn : other (turn_of (ms ++ x ∷ [])) ≡ mover =
+      ap other (turn_push ms x) ∙ other_other mover mover_side in
+      ap (λ t. pick t 0 (pick (eqb (get_or (forest_of n (ms ++ x ∷ [])).borders (games.last_of 0 (ms ++ x ∷ [])) 0 % 4) 3) (other (turn_of (ms ++ x ∷ []))) 0)) some ∙
+      (ap (λ i. pick (eqb (get_or (forest_of n (ms ++ x ∷ [])).borders i 0 % 4) 3) (other (turn_of (ms ++ x ∷ []))) 0) (last_push 0 ms x) ∙
       ap (λ s. pick (eqb (byte % 4) 3) s 0) turn)
 
   pub pushed_open : winner_of n (ms ++ x ∷ []) ≡ 0 → Open (board_of n (ms ++ x ∷ []))
   pushed_open e =
       let w = winner_push in
       let apart : Both byte → ⊥ = λ both. ⊎_elim (λ one. grind (arith, nat_tests)) (λ two. grind (arith, nat_tests)) mover_side in
-      open_still n ms x h.legal open_before apart
+      of_both (λ t. Connects (board_of n (ms ++ x ∷ [])) t → ⊥) mover mover_side (λ c. apart (decides.0.0 c)) decides.1
 
   pub pushed_won : (s : ℕ) → winner_of n (ms ++ x ∷ []) ≡ s → s ≢ 0 → Connects (board_of n (ms ++ x ∷ [])) s × ((s ≡ 1) ⊎ (s ≡ 2))
   pushed_won s e some =

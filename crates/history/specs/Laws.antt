@@ -23,10 +23,10 @@ BackToTheByte =
     (g h j : Game) (m k l : Memory) (x a b : ℕ) → InBytes m → InBytes l → Holds g m → Served g m (games.moves x) (games.number a) h k →
     Served h k games.back (games.number b) j l → l ≡ m
 
--- A side has won, by the byte of the last stone, just if it has connected on the board,
+-- A side has won, by the byte of the last stone, exactly when it has connected on the board,
 abbrev pub WinnerConnects : Type 0
 WinnerConnects = (n s : ℕ) (ms : List ℕ) → Played n ms → (s ≡ 1) ⊎ (s ≡ 2) → ((winner_of n ms ≡ s) ↔ Connects (board_of n ms) s)
 
--- and nobody has won just if nobody has connected.
+-- and nobody has won exactly when nobody has connected.
 abbrev pub NobodyConnects : Type 0
 NobodyConnects = (n : ℕ) (ms : List ℕ) → Played n ms → ((winner_of n ms ≡ 0) ↔ Open (board_of n ms))

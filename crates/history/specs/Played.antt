@@ -3,13 +3,13 @@ use Rattle.std.specs.Prelude.{◌≡◌, ℕ, ◌-◌, ◌*◌, ◌%◌, ◌<◌
 use Rattle.hexboard.specs.Board.{pick, all_cells, other}
 use Rattle.hexboard.specs.Games as games
 use Rattle.hexboard.specs.Words.{words}
-use Rattle.groups.specs.Moves as moves
-use Rattle.groups.specs.Moves.{board_of, turn_of, forest_of, Legal}
+use Rattle.groups.specs.Stones.{KeepsGroups}
+use Rattle.groups.specs.Moves.{stones_of, board_of, turn_of, forest_of, Legal}
 use Rattle.groups.specs.Meaning.{Open}
 
 -- the game that a list of moves leads to from the empty board
 abbrev pub game_of : ℕ → List ℕ → games.Game
-game_of n ms = record { board = board_of n ms; turn = turn_of n ms; moves = ms }
+game_of n ms = record { board = board_of n ms; turn = turn_of ms; moves = ms }
 
 -- moves that can be made: each to an empty cell, and before each of them nobody had connected
 pub record Played (n : ℕ) (ms : List ℕ) : Type 0 where
@@ -20,7 +20,7 @@ pub record Played (n : ℕ) (ms : List ℕ) : Type 0 where
 -- That is the side that has connected, as `winner_has_connected` promises.
 abbrev pub winner_of : ℕ → List ℕ → ℕ
 winner_of n ms =
-    pick (length ms == 0) 0 (pick (slice_index (forest_of n ms).borders (games.last_of 0 ms) % 4 == 3) (other (turn_of n ms)) 0)
+    pick (length ms == 0) 0 (pick (slice_index (forest_of n ms).borders (games.last_of 0 ms) % 4 == 3) (other (turn_of ms)) 0)
 
 -- What memory holds of these moves, byte for byte: the stones, the moves themselves with zeros behind them, and the groups. The
 -- moves and the parents are numbers of two bytes, low byte first.
@@ -28,5 +28,5 @@ pub record Kept (n : ℕ) (ms stones log parents borders : List ℕ) : Type 0 wh
   pub stones_are : stones ≡ (board_of n ms).cells
   pub log_is : words log ≡ ms ++ all_cells (n * n - length ms)
   pub log_long : length log ≡ n * n * 2
-  pub groups_are : moves.Kept n ms parents borders
+  pub groups_are : KeepsGroups n (stones_of ms) parents borders
   pub parents_long : length parents ≡ n * n * 2

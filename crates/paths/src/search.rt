@@ -48,8 +48,7 @@ pub fn search(ground: &Ground, frontier: &mut Frontier) -> Option<u16>
         return Some(cell);
     }
     let mut found = None;
-    // The queue grows while it is read, so it is read by place: an iterator would hold it lent. Both loops are left from inside, by a
-    // label, as those of `hexboard::first_pair` are, the only other such loops (docs/DECISIONS.md).
+    // The queue grows while it is read, so it is read by place: an iterator would hold it lent.
     let mut head = 0;
     'search: while let Some(cell) = frontier.listed(head) {
         for next in Neighbours::of(ground.size, cell) {

@@ -1,105 +1,96 @@
-// What the programs share: the one loop that reads lines and prints answers, as their arguments ask.
+// What the programs share: standard input, served line by line as their arguments ask.
 #![tactic(auto)]
 
-mod printing;
+mod timed;
 
 ghost use Rattle.std.specs.Prelude.{◌≡◌};
 
 use anyhow::anyhow;
 use arguments::{Asked, Flag, Help, read_arguments};
-use driver::{Limits, Times, answer_line, kind_of, write_times};
-pub use printing::{Answers, Last, Line, Positions, Printing};
+use driver::{Answers, Limits, Listener, Positions, Refusals, Table, serve_lines};
 use std::env;
-use std::io::{BufRead, BufReader};
-use std::time::Instant;
+use std::io::{BufReader, BufWriter};
+use timed::Timed;
 
-// A program: its name, what --help tells of it alone, and how far it goes.
+/// A program: its name, what --help tells of it alone, how far it goes, and the flags that it takes besides --help.
 #[derive(Clone, Copy)]
 pub struct Program {
     pub name: &'static str,
     pub help: &'static str,
     pub limits: Limits,
+    pub flags: &'static [Flag],
 }
 
 impl Program {
     // What --help tells.
     fn told(self) -> Help
         ensures about { result.about ≡ self.help }
-        ensures largest { result.largest ≡ self.limits.largest }
+        ensures largest { result.largest ≡ self.limits.largest.n }
         ensures ends { result.ends ≡ self.limits.ends }
     {
         let Limits { largest, ends } = self.limits;
         Help {
             about: self.help,
-            largest,
+            largest: largest.width(),
             ends,
         }
     }
-}
 
-// Does what the arguments of a program ask for that takes none but --help.
-pub fn run<P: Printing>(rt: &HostRuntime, program: Program, printing: &P) -> anyhow::Result<()> {
-    match asked(rt, program, &[])? {
-        Some(_) => serve_input(rt, program.limits, printing, false),
-        None => Ok(rt.print(&program.told())?),
+    // What the arguments ask for; or none if that is --help.
+    fn asked(self, rt: &HostRuntime) -> anyhow::Result<Option<Asked>> {
+        let arguments: Vec<String> = env::args(rt)?.skip(1).collect(rt.alloc())?;
+        let name = self.name;
+        read_arguments(arguments.as_slice(), self.flags).map_err(|argument| {
+            anyhow!("no such argument: {argument}; {name} --help tells what there is")
+        })
     }
 }
 
-// Does what the arguments of a program ask for that takes --show and --times.
-pub fn run_with_flags(rt: &HostRuntime, program: Program) -> anyhow::Result<()> {
-    match asked(rt, program, &[Flag::Show, Flag::Times])? {
-        Some(Asked { show: true, times }) => serve_input(rt, program.limits, &Positions, times),
-        Some(Asked { show: false, times }) => serve_input(rt, program.limits, &Answers, times),
-        None => Ok(rt.print(&program.told())?),
+/// Answers each line of standard input by a line on standard output, as the arguments ask.
+pub fn answer_input(rt: &HostRuntime, program: Program) -> anyhow::Result<()> {
+    let Some(Asked { show, times }) = program.asked(rt)? else {
+        return Ok(rt.print(&program.told())?);
+    };
+    let out = BufWriter::new(rt.alloc(), rt.stdout())?;
+    if show {
+        listen(rt, program.limits, Positions::new(out), times)
+    } else {
+        listen(rt, program.limits, Answers::new(out), times)
     }
 }
 
-// What the arguments ask for, of the flags that the program takes; or none if that is --help.
-fn asked(rt: &HostRuntime, program: Program, taken: &[Flag]) -> anyhow::Result<Option<Asked>> {
-    let arguments: Vec<String> = env::args(rt)?.skip(1).collect(rt.alloc())?;
-    let name = program.name;
-    read_arguments(arguments.as_slice(), taken).map_err(|argument| {
-        anyhow!("no such argument: {argument}; {name} --help tells what there is")
-    })
-}
-
-// Serves standard input, line by line.
-fn serve_input<P: Printing>(
+// Serves standard input, and tells how long that took, if times are asked for.
+fn listen<L: Listener + Drop>(
     rt: &HostRuntime,
     limits: Limits,
-    printing: &P,
-    timed: bool,
+    listener: L,
+    times: bool,
 ) -> anyhow::Result<()> {
     let heap = rt.alloc();
-    let mut desk = None;
-    let mut times = timed.then(Times::new);
-    let mut out = String::new(heap);
-    for (number, line) in (1u64..).zip(BufReader::new(heap, rt.stdin())?.split(heap, b'\n')) {
-        let line = line?;
-        out.clear();
-        // The clock is read only where times are told.
-        let start = times.is_some().then(|| Instant::now(rt)).transpose()?;
-        let served = answer_line(heap, limits, &mut desk, line.as_slice(), &mut out)?;
-        let took = start.map(|start| start.elapsed(rt)).transpose()?;
-        let kind = kind_of(line.as_slice());
-        if let Some(times) = &mut times
-            && let Some(kind) = kind
-            && let Some(took) = took
-        {
-            times.note(kind, took);
-        }
-        let line = Line {
-            number,
-            kind,
-            served,
-        };
-        printing.print_line(rt, line, &mut desk, &mut out)?;
+    let mut table = Table::new(heap, limits)?;
+    let mut input = BufReader::new(heap, rt.stdin())?;
+    if times {
+        let mut timed = Timed::new(rt, listener);
+        serve_lines(&mut table, &mut input, &mut timed)?;
+        Ok(rt.eprint(&timed.times())?)
+    } else {
+        let mut listener = listener;
+        Ok(serve_lines(&mut table, &mut input, &mut listener)?)
     }
-    printing.print_end(rt, &desk)?;
-    if let Some(times) = times {
-        out.clear();
-        write_times(&mut out, times)?;
-        rt.eprint(out.as_str())?;
+}
+
+/// Serves each line of standard input, tells what is refused on standard error, and at the end prints the position on standard output.
+pub fn show_board(rt: &HostRuntime, program: Program) -> anyhow::Result<()> {
+    if program.asked(rt)?.is_none() {
+        return Ok(rt.print(&program.told())?);
     }
-    Ok(())
+    let heap = rt.alloc();
+    let mut table = Table::new(heap, program.limits)?;
+    let mut input = BufReader::new(heap, rt.stdin())?;
+    let mut refusals = Refusals::new(rt.stderr());
+    serve_lines(&mut table, &mut input, &mut refusals)?;
+    match table.position(0) {
+        Some(position) => Ok(rt.print(&position)?),
+        None => Ok(eprintln!(rt; "no board was opened")?),
+    }
 }

@@ -1,7 +1,7 @@
 -- Laws of sets as bits: what the bits of a union, an intersection, one cell more and one cell fewer are.
 use Rattle.std.proofs.Common.{◌≡◌, ℕ, zero, suc, ◌+◌, ◌-◌, ◌/◌, ◌%◌, ◌^◌, ◌<◌, ◌≤◌, min, max, ◌⊎◌, refl, ap, ◌∙◌, inl, inr, ⊎_elim, pow-suc, arith}
 use lib.Bits.{bit_and, bit_or, and_step, or_step, and_le_l}
-use lib.Count.{ones, ones_step, count_trailing_zeros, under}
+use lib.Count.{ones, ones_step, ones-le, count_trailing_zeros, under}
 use Rattle.std.proofs.lemmas.Bool.{cases_eq}
 use Rattle.ranking.specs.Sets.{bit, Within}
 
@@ -146,6 +146,9 @@ in_and k x y h = omega (arith, bit_of_and k x y, bit_below k x, bit_below k y)
 pub and_in : (k x y : ℕ) → bit k x ≡ 1 → bit k y ≡ 1 → bit k (bit_and x y) ≡ 1
 and_in k x y h i = omega (arith, bit_of_and k x y)
 
+pub out_of_and : (k x y : ℕ) → bit k y ≡ 0 → bit k (bit_and x y) ≡ 0
+out_of_and k x y h = omega (arith, bit_of_and k x y)
+
 pub in_or : (k x y : ℕ) → bit k (bit_or x y) ≡ 1 → (bit k x ≡ 1) ⊎ (bit k y ≡ 1)
 in_or k x y h = ⊎_elim inl (λ out. inr (omega (arith, bit_of_or k x y))) (in_or_out k x)
 
@@ -177,3 +180,30 @@ left_out k x y h w = ⊎_elim
     (λ i. ⊎_elim (λ p. absurd (omega (arith, w k i))) (λ p. absurd (p.0 refl)) (bit_less k y h k))
     (λ out. out)
     (in_or_out k x)
+
+-- a set within another has no more cells,
+pub ones_within : (e x y : ℕ) → x < 2 ^ e → y < 2 ^ e → Within x y → ones x ≤ ones y
+unfolding bit
+ones_within zero x y f g w = omega (arith, ones-le 0 x f)
+ones_within (suc e) x y f g w =
+    let rest = ones_within e (x / 2) (y / 2) (omega (arith, pow-suc 2 e)) (omega (arith, pow-suc 2 e)) (λ k. w (suc k)) in
+    let head : x % 2 ≤ y % 2 = ⊎_elim (λ i. omega (arith, w 0 i)) (λ out. omega arith) (in_or_out 0 x) in
+    omega (arith, ones_step x, ones_step y)
+
+-- and fewer if it leaves one out
+pub ones_fewer : (e k x y : ℕ) → y < 2 ^ e → Within x y → bit k y ≡ 1 → bit k x ≡ 0 → ones x < ones y
+ones_fewer e k x y f w in_y out =
+    let less = bit_less k y in_y in
+    let gone : bit k (y - 2 ^ k) ≡ 0 = ⊎_elim (λ p. p.1) (λ p. absurd (p.0 refl)) (less k) in
+    let back : y - 2 ^ k + 2 ^ k ≡ y = omega (arith, cell_le k y in_y) in
+    let one : ones y ≡ ones (y - 2 ^ k) + 1 = rw back at (ones_more k (y - 2 ^ k) gone) in
+    let within : Within x (y - 2 ^ k) = λ j i. ⊎_elim (λ p. absurd (omega (arith, ap (λ m. bit m x) p.0))) (λ p. p.1 ∙ w j i) (less j) in
+    omega (arith, ones_within e x (y - 2 ^ k) (within_below e x y w f) (omega arith) within)
+
+-- three sets that share e cells have e cells together
+pub ones_shared : (e x y z : ℕ) → x < 2 ^ e → y < 2 ^ e → z < 2 ^ e → ((k : ℕ) → k < e → bit k x + (bit k y + bit k z) ≡ 1) → ones x + (ones y + ones z) ≡ e
+unfolding bit
+ones_shared zero x y z f g h each = omega (arith, ones-le 0 x f, ones-le 0 y g, ones-le 0 z h)
+ones_shared (suc e) x y z f g h each =
+    let rest = ones_shared e (x / 2) (y / 2) (z / 2) (omega (arith, pow-suc 2 e)) (omega (arith, pow-suc 2 e)) (omega (arith, pow-suc 2 e)) (λ k l. each (suc k) (omega arith)) in
+    omega (arith, ones_step x, ones_step y, ones_step z, each 0 (omega arith))

@@ -1,7 +1,7 @@
 -- One place of a table of two bits to a place is written, and all the others stay.
-use Rattle.std.proofs.Common.{◌≡◌, ℕ, zero, suc, ◌+◌, ◌-◌, ◌*◌, ◌/◌, ◌%◌, ◌^◌, ◌<◌, ◌≤◌, ◌≢◌, List, length, get_or, replicate, set, sym, refl, ap, ◌∙◌, ⊎_elim, arith, length-set}
+use Rattle.std.proofs.Common.{◌≡◌, ℕ, zero, suc, ◌+◌, ◌-◌, ◌*◌, ◌/◌, ◌%◌, ◌^◌, ◌<◌, ◌≤◌, ◌≢◌, List, ◌++◌, length, get_or, replicate, set, sym, refl, ap, ◌∙◌, ⊎_elim, arith, length-set}
 use lib.Bits.{bit_and, and_mask}
-use Rattle.std.proofs.lemmas.List.{get_or-set_same, get_or-set_other, get_or_past, get_or-replicate, length-replicate}
+use Rattle.std.proofs.lemmas.List.{get_or-set_same, get_or-set_other, get_or_past, get_or_append_left, get_or-replicate, length-replicate}
 use Rattle.std.proofs.lemmas.Bool.{cases_eq, cases_lt}
 use Rattle.ranking.specs.Table.{entry, Put}
 
@@ -47,6 +47,11 @@ unfolding entry
 all_clear n i =
     let zeros : get_or (replicate {A = ℕ} n 0) (i / 4) 0 ≡ 0 = ⊎_elim (get_or-replicate {A = ℕ} n (i / 4) 0 0) (λ p. get_or_past (replicate {A = ℕ} n 0) (i / 4) 0 (omega (arith, length-replicate {A = ℕ} n 0))) (cases_lt (i / 4) n) in
     rw zeros (quarters (λ q. 0 / 2 ^ (2 * q) % 4 ≡ 0) refl refl refl refl (i % 4) (omega arith))
+
+-- what is behind a table changes no entry of it
+pub entry_front : (t u : List ℕ) (i : ℕ) → i / 4 < length t → entry (t ++ u) i ≡ entry t i
+unfolding entry
+entry_front t u i l = rw (get_or_append_left t u 0 (i / 4) l) refl
 
 -- what the code writes: the byte without its old part, and with the new one
 abbrev pub old : ℕ → ℕ → ℕ

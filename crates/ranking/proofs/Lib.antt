@@ -4,3 +4,4 @@ pub mod Counting
 pub mod Ranks
 pub mod Entries
 pub mod Rows
+pub mod Sums

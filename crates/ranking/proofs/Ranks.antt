@@ -2,9 +2,10 @@
 use Rattle.std.proofs.Common.{◌≡◌, ℕ, zero, suc, ◌+◌, ◌-◌, ◌/◌, ◌%◌, ◌^◌, ◌<◌, ◌≤◌, sym, refl, ap, ◌∙◌, ap₂, ⊎_elim, pow-suc, arith}
 use native.Mathlib.Nat.{sub-zero}
 use lib.Count.{ones, ones_step, ones-le}
-use Rattle.std.proofs.lemmas.Bool.{cases_order}
+use Rattle.std.proofs.lemmas.Bool.{cases_eq, cases_order}
+use Rattle.std.proofs.lemmas.Bool.Decides.{nat_tests}
 use Rattle.ranking.specs.Sets.{bit, Apart}
-use Rattle.ranking.specs.Positions.{Position, choose, count, before, rank, start, total, place}
+use Rattle.ranking.specs.Positions.{Position, choose, count, before, rank, start, total, place, stones_up_to, free_at}
 use Rattle.ranking.proofs.Counting.{start_small, mine_room, theirs_room, both_room, empty_room, count_none}
 
 -- what can stand on a cell: m of mine and t of theirs
@@ -87,13 +88,13 @@ rank_once (suc k) a b x y z w h i p q u v e =
     omega arith
 
 -- positions with fewer stones come first
-start_more : (e m d : ℕ) → start e m ≤ start e (m + d)
+pub start_more : (e m d : ℕ) → start e m ≤ start e (m + d)
 unfolding start
 start_more e m zero = let same : m + 0 ≡ m = omega arith in rw same (omega arith)
 start_more e m (suc d) = let next : m + suc d ≡ suc (m + d) = omega arith in rw next (omega (arith, start_more e m d))
 
 -- the stones of a position are as many as the turns say
-abbrev stones : ℕ → ℕ → ℕ
+abbrev pub stones : ℕ → ℕ → ℕ
 stones x y = ones x + ones y
 
 turns : (e x y : ℕ) → Position e x y → (ones x ≡ stones x y / 2) × (ones y ≡ (stones x y + 1) / 2)
@@ -103,7 +104,7 @@ laid : (e x y : ℕ) → Position e x y → Laid e x y
 laid e x y h = (h.mine_fits, h.theirs_fits, h.apart)
 
 -- a position's place is before that of every position with more stones
-place_next : (e x y : ℕ) → Position e x y → place e x y < start e (suc (stones x y))
+pub place_next : (e x y : ℕ) → Position e x y → place e x y < start e (suc (stones x y))
 unfolding place start
 place_next e x y h =
     let (a, b) = turns e x y h in omega (arith, ap₂ (count e) a b, rank_below e x y (laid e x y h))
@@ -130,6 +131,26 @@ place_below e x y h =
     let few = stones_le e x y (laid e x y h) in
     let same : suc (stones x y) + (e - stones x y) ≡ e + 1 = omega arith in
     omega (arith, place_next e x y h, rw same at (start_more e (suc (stones x y)) (e - stones x y)))
+
+-- A position's place is not before that of any position with as many stones, so the place tells how many it has.
+pub place_from : (e x y : ℕ) → start e (stones x y) ≤ place e x y
+unfolding place
+place_from e x y = omega arith
+
+stones_there : (e x y m : ℕ) → Position e x y → stones x y ≤ m → stones_up_to e (place e x y) m ≡ stones x y
+unfolding stones_up_to
+stones_there e x y zero h l = omega arith
+stones_there e x y (suc m) h l = ⊎_elim
+    (λ same. let begun : start e (suc m) ≤ place e x y = rw same at (place_from e x y) in grind (arith, nat_tests, begun))
+    (λ apart.
+    let more : suc (stones x y) + (m - stones x y) ≡ suc m = omega arith in
+    let later : place e x y < start e (suc m) = omega (arith, place_next e x y h, rw more at (start_more e (suc (stones x y)) (m - stones x y))) in
+    let before = stones_there e x y m h (omega arith) in
+    grind (arith, nat_tests, later, before))
+    (cases_eq (stones x y) (suc m))
+
+pub free_there : (e x y : ℕ) → Position e x y → free_at e (place e x y) + stones x y ≡ e
+free_there e x y h = omega (arith, stones_there e x y e h (stones_few e x y h), stones_few e x y h)
 
 -- and no other position has it.
 sooner : (e x y z w : ℕ) → Position e x y → stones x y < stones z w → place e x y < place e z w

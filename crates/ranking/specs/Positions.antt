@@ -1,5 +1,5 @@
 -- The place of a position among all that can arise in an end of a game. Definitions only.
-use Rattle.std.specs.Prelude.{◌≡◌, ℕ, zero, suc, ◌+◌, ◌-◌, ◌*◌, ◌/◌, ◌%◌, ◌^◌, ◌<◌, cond, ◌⊎◌, ◌==◌, count_ones}
+use Rattle.std.specs.Prelude.{◌≡◌, ℕ, zero, suc, ◌+◌, ◌-◌, ◌*◌, ◌/◌, ◌%◌, ◌^◌, ◌<◌, cond, ◌⊎◌, ◌==◌, nat_le, count_ones}
 use Rattle.ranking.specs.Sets.{Apart}
 
 -- A position of an end with e cells is two sets, the stones of the side to move and those of the other, laid since the end began.
@@ -44,9 +44,25 @@ total e = start e (e + 1)
 unfoldable pub place : ℕ → ℕ → ℕ → ℕ
 place e mine theirs = start e (count_ones mine + count_ones theirs) + rank e mine theirs
 
+-- how many stones the position at place i has, if it has at most m: the positions with so many begin
+-- there or before, and those with one more do not
+unfoldable pub stones_up_to : ℕ → ℕ → ℕ → ℕ
+stones_up_to e i zero = 0
+stones_up_to e i (suc m) = cond (nat_le (start e (suc m)) i) (suc m) (stones_up_to e i m)
+
+-- how many cells are free in the position at place i
+abbrev pub free_at : ℕ → ℕ → ℕ
+free_at e i = e - stones_up_to e i e
+
 -- each position has a place below the number of positions, and shares it with no other
 abbrev pub EachBelow : Type 0
 EachBelow = (e mine theirs : ℕ) → Position e mine theirs → place e mine theirs < total e
 
 abbrev pub NoneShared : Type 0
 NoneShared = (e x y z w : ℕ) → Position e x y → Position e z w → place e x y ≡ place e z w → (x ≡ z) × (y ≡ w)
+
+-- and its place tells how many cells its stones leave free
+abbrev pub TellsFree : Type 0
+TellsFree =
+    (e mine theirs : ℕ) → Position e mine theirs →
+    free_at e (place e mine theirs) + (count_ones mine + count_ones theirs) ≡ e

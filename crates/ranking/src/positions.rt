@@ -11,8 +11,6 @@ struct Stones {
 }
 
 // Rows 0 to 16 of Pascal's triangle, each with columns 0 to 16.
-// That there are at most 16 cells, and stones on them, is asked by the functions here and is no type: they are added and taken off each
-// other in every step.
 #[derive(Drop)]
 struct Triangle {
     rows: [[u32; 17]; 17],
@@ -23,7 +21,7 @@ impl Triangle {
     fn new() -> Triangle {
         let mut rows = [[0; 17]; 17];
         rows[0][0] = 1;
-        // By index: each number is the sum of two of the row above.
+        // Each number is the sum of two of the row above.
         for n in 1..17 {
             rows[n][0] = 1;
             for k in 1..17 {
@@ -70,8 +68,8 @@ impl Triangle {
     }
 }
 
-// What the places of positions are reckoned from, for ends with so many cells: Pascal's triangle, and how many positions have fewer
-// stones.
+/// What the places of positions are reckoned from, for ends with so many cells: Pascal's triangle, and how many positions have fewer
+/// stones.
 #[derive(Drop)]
 pub struct Ranking {
     pub cells: u32,
@@ -82,14 +80,13 @@ pub struct Ranking {
 }
 
 impl Ranking {
-    // For ends with so many cells.
+    /// For ends with so many cells.
     pub fn new(cells: u32) -> Ranking
         requires { cells ≤ 16 }
         ensures { result.cells ≡ cells }
     {
         let triangle = Triangle::new();
         let mut starts = [0; 18];
-        // By index: each number is the one before it and more.
         for m in 0..17 {
             let all = m as u32;
             let stones = Stones {
@@ -105,7 +102,7 @@ impl Ranking {
         }
     }
 
-    // How many positions there are.
+    /// How many positions there are.
     pub fn places(&self) -> usize
         ensures value { result ≡ total self.now.cells }
         ensures most { result ≤ 10165779 }
@@ -113,7 +110,7 @@ impl Ranking {
         self.starts[self.cells as usize + 1]
     }
 
-    // The place of a position: of the stones of the side to move, and those of the other.
+    /// The place of a position: of the stones of the side to move, and those of the other.
     pub fn place(&self, mine: u64, theirs: u64) -> usize
         requires { Position self.now.cells mine theirs }
         ensures { result ≡ place self.now.cells mine theirs }
@@ -126,7 +123,6 @@ impl Ranking {
         let mut x = mine;
         let mut y = theirs;
         for k in (0..self.cells).rev() {
-            // Numbers, and not an enum of what stands on the cell: they are taken off the numbers of stones that are left.
             let first = Stones {
                 mine: (x % 2) as u32,
                 theirs: (y % 2) as u32,

@@ -5,7 +5,7 @@ ghost use Rattle.ranking.specs.Sets.{bit, members};
 
 use std::marker::Model;
 
-// The lowest cell of a set that is not empty.
+/// The lowest cell of a set that is not empty.
 pub fn lowest(set: u64) -> u32
     requires { 0 < set }
     ensures within { bit result set ≡ 1 }
@@ -15,7 +15,7 @@ pub fn lowest(set: u64) -> u32
     set.trailing_zeros()
 }
 
-// The set of one cell.
+/// The set of one cell.
 pub fn one(cell: u32) -> u64
     requires { cell < 64 }
     ensures { result ≡ 2 ^ cell }
@@ -23,7 +23,7 @@ pub fn one(cell: u32) -> u64
     1 << cell
 }
 
-// What is left of a set whose cells are taken out one after the other, the lowest first: seen as the list of those cells.
+/// What is left of a set whose cells are taken out one after the other, the lowest first: seen as the list of those cells.
 #[derive(Drop)]
 pub struct Cells {
     rest: u64,
@@ -39,7 +39,7 @@ impl Model for Cells {
 }
 
 impl Cells {
-    // The cells of a set.
+    /// The cells of a set.
     pub fn of(set: u64) -> Cells
         ensures { result ≡ members set }
     {

@@ -6,6 +6,7 @@ use Rattle.hexboard.specs.Sides.{number}
 use Rattle.hexboard.specs.Words.{words}
 use Rattle.hexboard.specs.declared.side.Side.{Side}
 use Rattle.paths.specs.Ways.{Written}
+use Rattle.groups.specs.Moves.{stones_of}
 use Rattle.groups.proofs.Positions.{board_cells, board_laid}
 use Rattle.history.specs.Holds.{won_by, Memory, moves_in, formal, Holds}
 use Rattle.history.specs.declared.game.Game.{Game}
@@ -19,7 +20,7 @@ use Rattle.wire.specs.declared.refusal.Refusal.{Refusal}
 
 -- there is a stone's byte for each cell
 pub stones_long : (g : Game) (m : Memory) → Holds g m → length m.stones ≡ g.size.n * g.size.n
-stones_long g m h = ap length h.kept.stones_are ∙ board_cells g.size.n (moves_in g m) h.played.legal
+stones_long g m h = ap length h.kept.stones_are ∙ board_cells g.size.n (stones_of (moves_in g m)) h.played.legal
 
 -- a way of the winner that was written to the front of some bytes is the right answer
 pub right_found : (g : Game) (m : Memory) → Holds g m → (side : Side) → won_by g.winner ≡ number side → (old new : List ℕ) (k : ℕ) →
@@ -32,7 +33,7 @@ right_found g m h side e old new k w =
 pub short_found : (g : Game) (m : Memory) → Holds g m → (side : Side) (old new : List ℕ) (k : ℕ) → Written (laid g.size.n m.stones) (number side) old new k →
     Short (formal g m).board (games.way (number side) (words (take (2 * k) new)))
 short_found g m h side old new k w =
-    subst (λ b. Short b (games.way (number side) (words (take (2 * k) new)))) (board_laid g.size.n (moves_in g m) m.stones h.kept.stones_are) w.shortest.least
+    subst (λ b. Short b (games.way (number side) (words (take (2 * k) new)))) (board_laid g.size.n (stones_of (moves_in g m)) m.stones h.kept.stones_are) w.shortest.least
 
 -- no other reply is a refusal
 pub not_refused_number : (n : ℕ) (why : Refusal) → ◌≡◌ {A = Reply} (reply.Number n) (reply.Refused why) → ⊥

@@ -7,11 +7,12 @@ use Rattle.hexboard.specs.Sides.{number}
 use Rattle.hexboard.specs.declared.side.Side.{Side}
 use Rattle.hexboard.specs.declared.side.Side.TheVariants.{One, Two}
 use Rattle.theorems.proofs.Decided.{one_of_both_lem}
+use Rattle.groups.specs.Moves.{stones_of}
 use Rattle.groups.proofs.Positions.{board_good, board_cells}
-use Rattle.verdict.specs.Verdicts as Verdicts
-use Rattle.verdict.specs.Verdicts.{Judges}
-use Rattle.verdict.specs.declared.verdict.Verdict.{Verdict}
-use Rattle.verdict.specs.declared.verdict.Verdict.TheVariants as verdict
+use Rattle.endgame.specs.Verdicts as Verdicts
+use Rattle.endgame.specs.Verdicts.{Judges}
+use Rattle.endgame.specs.declared.verdict.Verdict.{Verdict}
+use Rattle.endgame.specs.declared.verdict.Verdict.TheVariants as verdict
 use Rattle.history.specs.Holds.{won_by, Memory, moves_in, formal, Holds}
 use Rattle.history.specs.declared.game.Game.{Game}
 use Rattle.history.proofs.Serving.{some_side, not_won, mover}
@@ -43,7 +44,7 @@ module _ (g : Game) (m : Memory) (h : Holds g m) (turn : Side) (is : number turn
   pub right_lost : (side : Side) → won_by g.winner ≡ number side → side ≢ turn → games.Right now_game games.can_force games.no now_game
   right_lost side e apart =
       games.not_forced
-      (subst (λ t. games.Forces t now_game.board t → ⊥) (sym turn_is) (lost_to now_game.board side turn (board_good g.size.n (moves_in g m) g.size.some) apart (connected side e)))
+      (subst (λ t. games.Forces t now_game.board t → ⊥) (sym turn_is) (lost_to now_game.board side turn (board_good g.size.n (stones_of (moves_in g m)) h.played.legal g.size.some) apart (connected side e)))
 
   -- nobody has, and the end was looked through
   module _ (none : won_by g.winner ≡ 0) where
@@ -53,7 +54,7 @@ module _ (g : Game) (m : Memory) (h : Holds g m) (turn : Side) (is : number turn
     judged : (v : Verdict) → Judges g.size.n (number turn) m.stones m.parents m.borders v → Verdicts.Right now_game.board now_game.turn v
     judged v told =
         subst (λ t. Verdicts.Right now_game.board t v) (sym turn_is)
-        (told (moves_in g m) h.played.legal h.kept.stones_are h.kept.groups_are (winner_open g.size.n (moves_in g m) h.played (sym h.winner ∙ none)))
+        (told (stones_of (moves_in g m)) (record { legal = h.played.legal; cells = h.kept.stones_are; groups = h.kept.groups_are }) (winner_open g.size.n (moves_in g m) h.played (sym h.winner ∙ none)))
 
     pub right_yes : (i : ℕ) → Judges g.size.n (number turn) m.stones m.parents m.borders (verdict.Yes i) → games.Right now_game games.can_force (games.yes (i + 1)) now_game
     right_yes i told =
@@ -62,7 +63,7 @@ module _ (g : Game) (m : Memory) (h : Holds g m) (turn : Side) (is : number turn
 
     -- the cell is one of the board's, so its number has room for one more
     pub small_cell : (i : ℕ) → Judges g.size.n (number turn) m.stones m.parents m.borders (verdict.Yes i) → i < g.size.n * g.size.n
-    small_cell i told = subst (λ k. i < k) (board_cells g.size.n (moves_in g m) h.played.legal) (judged (verdict.Yes i) told).0
+    small_cell i told = subst (λ k. i < k) (board_cells g.size.n (stones_of (moves_in g m)) h.played.legal) (judged (verdict.Yes i) told).0
 
     pub right_no : Judges g.size.n (number turn) m.stones m.parents m.borders verdict.No → games.Right now_game games.can_force games.no now_game
     right_no told = games.not_forced (judged verdict.No told)

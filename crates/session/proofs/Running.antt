@@ -1,14 +1,20 @@
--- Lists of calls: one more call at the end, and what the contracts of opening and calling give for all of them.
-use Rattle.std.proofs.Common.{◌≡◌, ℕ, ◌+◌, ◌<◌, ◌≤◌, ◌≢◌, List, [], ◌∷◌, ◌++◌, map, length, take, sym, ap, ◌∙◌, subst, append_assoc, append-nil, arith}
-use Rattle.std.proofs.lemmas.List.{take_all, map-append}
+-- Lists of calls in bytes: what each call gives, and one more call at the end.
+use Rattle.std.proofs.Common.{◌≡◌, ℕ, ◌+◌, ◌*◌, ◌<◌, ◌≤◌, List, [], ◌∷◌, ◌++◌, map, length, take, Some, None, Ok, Err, Option, Result, IsSome, sym, ap, ◌∙◌, subst, append_assoc, append-nil, mul-le-mul, arith, MatchResult, true}
+use Rattle.std.specs.Borrow.{Bor}
+use Rattle.std.proofs.lemmas.List.{take_all, take_at, map-append}
 use Rattle.hexboard.specs.Board.{empties}
 use Rattle.hexboard.specs.Games as games
-use Rattle.hexboard.specs.Promise as promise
+use Rattle.wire.specs.Bytes.{shown}
 use Rattle.wire.specs.Formal.{asked}
+use Rattle.wire.specs.Numbers.{reason}
+use Rattle.wire.specs.Reading.{read}
 use Rattle.wire.specs.declared.call.Call.{Call}
-use Rattle.history.specs.Holds.{formal, Holds}
+use Rattle.wire.specs.declared.refusal.Refusal.{Refusal}
+use Rattle.history.specs.Holds.{Memory}
+use Rattle.history.specs.declared.game.Game.{Game}
+use Rattle.session.specs.Calling.{RightBytes, Shown, Taken, Called}
 use Rattle.session.specs.Short.{Short}
-use Rattle.session.specs.Runs.{Runs, none, one, Heard, KeepsContracts, ContractsSuffice}
+use Rattle.session.specs.Runs.{Runs, none, one, Hears, rows_of}
 
 -- too many is right only with more than 16 empty cells
 put_off : {g h : games.Game} {c : games.Call} {a : games.Answer} → games.Right g c a h → a ≡ games.too_many → 16 < empties g.board.cells
@@ -25,40 +31,54 @@ put_off (games.has_it c) e = let z : ◌≡◌ {A = ℕ} 0 1 = cc in absurd (ome
 put_off (games.not_forced f) e = let z : ◌≡◌ {A = ℕ} 0 1 = cc in absurd (omega arith)
 put_off (games.many p w) e = p
 
-pub decided : {g h : games.Game} {c : games.Call} {a : games.Answer} → games.Right g c a h → c ≡ games.can_force → empties g.board.cells ≤ 16 → a ≢ games.too_many
-decided right is few e = omega (arith, put_off right e)
+-- bytes that are no call are answered by a refusal, and so never by too many
+put_off_in_bytes : (g h : games.Game) (r : Result Call Refusal) (a : games.Answer) →
+    MatchResult r (λ call. games.Right g (asked call) a h) (λ why. (a ≡ games.refused (reason why).number (reason why).place) × (h ≡ g)) →
+    a ≡ games.too_many → 16 < empties g.board.cells
+put_off_in_bytes g h (Ok call) a right e = put_off right e
+put_off_in_bytes g h (Err why) a right e = let is = right.0 in let z : ◌≡◌ {A = ℕ} 0 1 = cc in absurd (omega arith)
 
 -- one more call
-pub run_more : {g h k : games.Game} {cs : List games.Call} {answers : List games.Answer} {c : games.Call} {a : games.Answer} → Runs g cs answers h → games.Right h c a k → Short h.board a → Runs g (cs ++ c ∷ []) (answers ++ a ∷ []) k
-run_more none right short = one right short (decided right) none
-run_more (one first brief d rest) right short = one first brief d (run_more rest right short)
+run_more : {g h k : games.Game} {rows : List (List ℕ)} {answers : List games.Answer} (bytes : List ℕ) (a : games.Answer) → Runs g rows answers h →
+    RightBytes h bytes a k → Short h.board a → (a ≡ games.too_many → 16 < empties h.board.cells) → Runs g (rows ++ bytes ∷ []) (answers ++ a ∷ []) k
+run_more bytes a none right short many = one right short many none
+run_more bytes a (one first brief few rest) right short many = one first brief few (run_more bytes a rest right short many)
 
--- what was heard: nothing at first,
-pub heard_none : (g : games.Game) (before : List games.Answer → Type 0) → Heard g [] g before before
-heard_none g before = ([], none, (λ earlier h. subst before (sym (append-nil earlier)) h))
+-- what is heard: nothing at first,
+pub hears_none : (g : games.Game) (before : List (List ℕ) → Type 0) → Hears g [] g before before
+hears_none g before = record { answers = []; runs = none; heard = λ earlier h. subst before (sym (append-nil earlier)) h }
 
 -- then an answer more for each call,
-pub heard_more : (g h k : games.Game) (before mid after : List games.Answer → Type 0) (calls : List Call) (i : ℕ) (call : Call) (a : games.Answer) →
-    take (i + 1) calls ≡ take i calls ++ call ∷ [] → Heard g (take i calls) h before mid → games.Right h (asked call) a k → Short h.board a → ((earlier : List games.Answer) → mid earlier → after (earlier ++ a ∷ [])) →
-    Heard g (take (i + 1) calls) k before after
-heard_more g h k before mid after calls i call a more (answers, runs, on) right short hears = (
-  answers ++ a ∷ [],
-  subst (λ (cs : List games.Call). Runs g cs (answers ++ a ∷ []) k) (sym (ap (map asked) more ∙ map-append asked (take i calls) (call ∷ []))) (run_more runs right short),
-  (λ earlier was. subst after (append_assoc earlier answers (a ∷ [])) (hears (earlier ++ answers) (on earlier was))),
-)
+pub hears_more : (g h k : games.Game) (before mid after : List (List ℕ) → Type 0) (slices : List (Bor (List ℕ))) (i : ℕ) (slice : Bor (List ℕ)) (a : games.Answer) →
+    take (i + 1) slices ≡ take i slices ++ slice ∷ [] → Hears g (rows_of (take i slices)) h before mid → RightBytes h slice.now a k → Short h.board a →
+    ((earlier : List (List ℕ)) → mid earlier → after (earlier ++ shown a ∷ [])) → Hears g (rows_of (take (i + 1) slices)) k before after
+hears_more g h k before mid after slices i slice a more so_far right short hears = record {
+  answers = so_far.answers ++ a ∷ [];
+  runs =
+      subst (λ (rows : List (List ℕ)). Runs g rows (so_far.answers ++ a ∷ []) k)
+      (sym (ap rows_of more ∙ map-append (λ (s : Bor (List ℕ)). s.now) (take i slices) (slice ∷ [])))
+      (run_more slice.now a so_far.runs right short (put_off_in_bytes h k (read slice.now) a right));
+  heard = λ earlier was.
+      subst after (append_assoc earlier (map shown so_far.answers) (shown a ∷ []) ∙ ap (λ (rows : List (List ℕ)). earlier ++ rows) (sym (map-append shown so_far.answers (a ∷ []))))
+      (hears (earlier ++ map shown so_far.answers) (so_far.heard earlier was));
+}
 
 -- and at the end an answer to each
-pub heard_all : (g h : games.Game) (before after : List games.Answer → Type 0) (calls : List Call) (i : ℕ) → length calls ≤ i → Heard g (take i calls) h before after → Heard g calls h before after
-heard_all g h before after calls i past = subst (λ (cs : List Call). Heard g cs h before after) (take_all i calls past)
+pub hears_all : (g h : games.Game) (before after : List (List ℕ) → Type 0) (slices : List (Bor (List ℕ))) (i : ℕ) → length slices ≤ i →
+    Hears g (rows_of (take i slices)) h before after → Hears g (rows_of slices) h before after
+hears_all g h before after slices i past = subst (λ (cs : List (Bor (List ℕ))). Hears g (rows_of cs) h before after) (take_all i slices past)
 
-module _ (d : promise.Desk) (keeps : KeepsContracts d) where
-  all_right : (m : promise.Memory) (cs : List games.Call) → Holds (keeps.game m) (keeps.parts m) → promise.AllRight d m (formal (keeps.game m) (keeps.parts m)) cs
-  all_right m [] h = promise.none
-  all_right m (c ∷ cs) h =
-      let (right, holds) = keeps.calls m c h in promise.one right (decided right) (all_right (d.next m c) cs holds)
+-- an answer's bytes stand at the front
+pub front_of : (a : games.Answer) (old new : List ℕ) (size : ℕ) → Shown a old new size → take size new ≡ shown a
+front_of a old new size h = ap (take size) h.bytes ∙ take_at (shown a) _ size (sym h.many)
 
-pub contracts_suffice_lem : ContractsSuffice
-unfolding promise.AnswersRight
-contracts_suffice_lem d keeps n cs some few =
-    let (holds, new) = keeps.opens n some few in
-    subst (λ g. promise.AllRight d (d.opened n) g cs) new (all_right d keeps (d.opened n) cs holds)
+module _ (g : Game) (m : Memory) (scratch bytes old : List ℕ) (h : Game) (k : Memory) (scratch' new : List ℕ) where
+  -- where there is room for every answer, there is one
+  pub is_answered : (r : Option ℕ) → Called g m scratch bytes old h k scratch' new r → length old ≡ 730 → IsSome r
+  is_answered None called long =
+      let few : g.size.n * g.size.n ≤ 361 = mul-le-mul g.size.few g.size.few in absurd (omega (arith, called.0, long, few))
+  is_answered (Some size) called long = λ _. true
+
+  -- and it is what taking the call gives
+  pub taken_by : (r : Option ℕ) (size : ℕ) → Called g m scratch bytes old h k scratch' new r → r ≡ Some size → Taken g m scratch bytes old h k scratch' new size
+  taken_by r size called is = let P : Option ℕ → Type 0 = Called g m scratch bytes old h k scratch' new in (subst P is called).1

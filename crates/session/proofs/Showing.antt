@@ -1,8 +1,8 @@
 -- A way in an answer's bytes: its head written in front of its cells, which stand there already.
-use Rattle.std.proofs.Common.{◌≡◌, ℕ, ◌+◌, ◌-◌, ◌*◌, ◌<◌, ◌≤◌, ◌⊎◌, List, ◌∷◌, ◌++◌, length, get_or, take, drop, Some, None, Ok, Option, sym, refl, ap, ◌∙◌, subst, inl, inr, ⊎_elim, append_assoc, append-nil, arith, MatchResult}
+use Rattle.std.proofs.Common.{◌≡◌, ℕ, ◌+◌, ◌-◌, ◌*◌, ◌/◌, min, ◌<◌, ◌≤◌, ◌⊎◌, List, ◌∷◌, ◌++◌, length, get_or, take, drop, Some, None, Ok, Option, sym, refl, ap, ◌∙◌, subst, inl, inr, ⊎_elim, append_assoc, append-nil, arith, MatchResult}
 use borrow.Rule.Slice.PartMut.{put_mid}
 use Rattle.std.specs.List.{flat_map}
-use Rattle.std.proofs.lemmas.List.{length-append, length-drop, length-take-le, take-append-drop, drop_all, drop_at, drop-drop, get_or-take, get_or-drop, length-take, get_or_past, take_rest}
+use Rattle.std.proofs.lemmas.List.{length-append, length-drop, length-take-le, take-append-drop, drop_all, drop_at, drop-drop, get_or-take, get_or-drop, length-take, get_or_past, take_rest, take_min}
 use Rattle.std.proofs.str.Laws.{order}
 use Rattle.hexboard.specs.Games as games
 use Rattle.hexboard.specs.Sides.{number}
@@ -13,12 +13,21 @@ use Rattle.wire.specs.Formal.{asked}
 use Rattle.wire.specs.Numbers.{reason}
 use Rattle.wire.specs.Reading.{read}
 use Rattle.wire.specs.declared.call.Call.{Call}
-use Rattle.hexboard.proofs.TwoBytes.{words_length}
+use Rattle.hexboard.proofs.TwoBytes.{words_length, words_take}
 use Rattle.wire.proofs.Words.{joined_words, length_joined}
 use Rattle.session.specs.Replies.{Reply, replied, way_cells}
 use Rattle.session.specs.Calling.{Shown, Refuses, RightBytes}
 use Rattle.wire.specs.declared.answer.Answer.TheVariants as reply
 use Rattle.wire.specs.declared.refusal.Refusal.{Refusal}
+
+-- whole cells alone tell the same way
+pub whole_cells : (bs : List ℕ) (k j : ℕ) → j ≡ min k (length bs / 2) → words (take (2 * j) bs) ≡ words (take (2 * k) bs)
+whole_cells bs k j few =
+    ap (λ i. words (take i bs)) (twice j) ∙ words_take j bs ∙ (ap (λ i. take i (words bs)) (few ∙ ap (min k) (sym (words_length bs))) ∙
+    (take_min k (words bs) ∙ (sym (words_take k bs) ∙ ap (λ i. words (take i bs)) (sym (twice k)))))
+  where
+    twice : (i : ℕ) → 2 * i ≡ i * 2
+    twice i = omega arith
 
 -- bytes of a part are bytes
 part_small : (bs : List ℕ) (n k : ℕ) → ((i : ℕ) → get_or bs i 0 < 256) → (i : ℕ) → get_or (take n (drop k bs)) i 0 < 256

@@ -4,15 +4,22 @@ use Rattle.hexboard.specs.Board.{all_cells, Connects}
 use Rattle.hexboard.specs.Words.{words}
 use Rattle.groups.specs.Forest.{held}
 use Rattle.groups.specs.Moves.{board_of, forest_of, Legal}
-use Rattle.verdict.specs.Verdicts.{bytes_of_table}
+use Rattle.endgame.specs.Verdicts.{bytes_of_table}
 use Rattle.history.specs.Played.{winner_of}
 use Rattle.history.specs.Holds.{won_by, Memory, moves_in}
 use Rattle.history.specs.declared.game.Game.{Game}
 
--- Room on a board n wide for the searches and for the cells of a way: just that of the table of an end, which is enough for both searches,
--- and two bytes a cell.
+-- Scratch and bytes for a way, for boards up to n wide: as long as the table of an end, which is enough for both searches, and two
+-- bytes a cell.
 abbrev pub Roomy : ℕ → ℕ → ℕ → Type 0
 Roomy n scratch way = (4 * (n * n) ≤ scratch) × (way ≡ 2 * (n * n)) × (scratch ≡ bytes_of_table n)
+
+-- The capacities of the six vectors of a desk for boards up to n wide: a byte for each stone, two for each move, two for each cell's
+-- parent and one for its borders; the table of an end; and two for each cell of a way.
+abbrev pub HasRoom : ℕ → ℕ → ℕ → ℕ → ℕ → ℕ → ℕ → Type 0
+HasRoom n stones log parents borders scratch way =
+    (stones ≡ n * n) × (log ≡ n * n * 2) × (parents ≡ n * n * 2) × (borders ≡ n * n)
+    × (scratch ≡ bytes_of_table n) × (way ≡ n * n * 2)
 
 -- the moves that are in memory can be made
 abbrev pub Fair : Game → Memory → Type 0

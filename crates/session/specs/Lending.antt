@@ -1,27 +1,17 @@
--- How much memory a game asks for, and what opening answers.
-use Rattle.std.specs.Prelude.{◌≡◌, ℕ, ◌+◌, ◌*◌, ◌<◌, ◌≤◌, ◌⊎◌, nat_le}
-use Rattle.hexboard.specs.Board.{pick}
+-- What opening in lent memory answers.
+use Rattle.std.specs.Prelude.{◌≡◌, ℕ, ◌*◌, ◌<◌, ◌≤◌, ◌⊎◌}
 use Rattle.hexboard.specs.Games as games
 use Rattle.wire.specs.declared.refusal.Refusal.{Refusal}
 use Rattle.wire.specs.declared.refusal.Refusal.TheVariants.{BadSize, SmallMemory}
 use Rattle.history.specs.Holds.{won_by, Memory, lent, formal, Holds}
 use Rattle.history.specs.declared.game.Game.{Game}
-use Rattle.verdict.specs.Verdicts.{bytes_of_table}
 use Rattle.session.specs.Serving.{Room}
+use Rattle.session.specs.Sizes.{asked}
 use Rattle.session.specs.declared.lent.Parts.{Parts}
 
 -- what the parts of the lent memory hold of a game
 abbrev pub memory_in : Parts → Memory
 memory_in p = lent p.stones.now p.log.now p.parents.now p.borders.now
-
--- The memory that a game on a board n wide asks for: six bytes for each cell, and the table of an end, which serves the search for a
--- way as scratch, too.
-abbrev pub asked : ℕ → ℕ
-asked n = 6 * (n * n) + bytes_of_table n
-
--- at most 24 bytes for each cell, and 4,194,304 more for boards of more than 9 cells, 16,384 more for smaller ones
-abbrev pub within : ℕ → ℕ
-within n = 24 * (n * n) + pick (nat_le (n * n) 9) 16384 4194304
 
 -- a game by value without moves, on a board n wide
 abbrev pub Fresh : ℕ → Game → Type 0

@@ -3,6 +3,7 @@ pub mod Told
 pub mod Short
 pub mod Serving
 pub mod Calling
+pub mod Sizes
 pub mod Lending
 pub mod Desks
 pub mod Runs

@@ -7,7 +7,7 @@ use Rattle.wire.specs.declared.call.Call.{Call}
 use Rattle.wire.specs.declared.refusal.Refusal.{Refusal}
 use Rattle.history.specs.Holds.{Memory, formal, Holds}
 use Rattle.history.specs.declared.game.Game.{Game}
-use Rattle.verdict.specs.Verdicts.{bytes_of_table}
+use Rattle.endgame.specs.Verdicts.{bytes_of_table}
 use Rattle.session.specs.Replies.{Reply, replied, way_cells, HasBytes}
 use Rattle.session.specs.Short.{Short}
 use Rattle.wire.specs.declared.answer.Answer.TheVariants.{Refused}

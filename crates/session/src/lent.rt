@@ -1,10 +1,12 @@
 // A game in memory that its caller lends: opening cuts the memory into parts once, and every call works on the parts.
-ghost use Rattle.std.specs.Prelude.{◌≡◌, ℕ, ◌+◌, ◌*◌, ◌<◌, ◌≤◌, length, MatchResult};
+ghost use Rattle.std.specs.Prelude.{◌≡◌, ℕ, ◌+◌, ◌*◌, ◌<◌, ◌≤◌, List, [], ◌∷◌, ◌++◌, length, MatchResult};
 ghost use Rattle.hexboard.specs.Games as games;
 ghost use Rattle.history.specs.Holds.{formal, Holds};
 ghost use Rattle.session.specs.Serving.{Room};
 ghost use Rattle.session.specs.Calling.{Called};
-ghost use Rattle.session.specs.Lending.{asked, within, memory_in, New, NotOpened};
+ghost use Rattle.session.specs.Lending.{memory_in, New, NotOpened};
+ghost use Rattle.session.specs.Runs.{Hears, Plays, PlaysSuffice, rows_of};
+ghost use Rattle.session.specs.Sizes.{asked, within};
 
 use crate::bytes::show;
 use crate::reply::Reply;
@@ -14,8 +16,8 @@ use history::Game;
 use thiserror::Error;
 use wire::Refusal;
 
-// The parts of the lent memory, one behind the other: a byte for each stone; two for each move; two for each cell's parent in its group,
-// and one for the borders of its group; and scratch for the searches.
+/// The parts of the lent memory, one behind the other: a byte for each stone; two for each move; two for each cell's parent in its
+/// group, and one for the borders of its group; and scratch for the searches.
 #[derive(Drop)]
 pub struct Parts<'a> {
     pub stones: &'a mut [u8],
@@ -25,7 +27,7 @@ pub struct Parts<'a> {
     pub scratch: &'a mut [u8],
 }
 
-// Why a game was not opened, and the memory, which is as it was.
+/// Why a game was not opened, and the memory, which is as it was.
 #[derive(Debug, Drop, Error)]
 #[error("{why}")]
 pub struct Closed<'a> {
@@ -33,32 +35,33 @@ pub struct Closed<'a> {
     pub memory: &'a mut [u8],
 }
 
-// How many bytes a game on a board of this size asks for.
+/// How many bytes a game on a board of this size asks for.
 pub fn memory_for(size: Size) -> usize
     ensures value { result ≡ asked size.n }
     ensures bound { result ≤ within size.n }
 {
-    6 * usize::from(size.cells()) + verdict::table_bytes(size)
+    6 * usize::from(size.cells()) + endgame::table_bytes(size)
 }
 
-// A new game on a board n wide and n tall, n from 1 to 19, in memory that holds anything. The parts hold it, and `Game::new` gives it
-// by value.
+/// A new game on a board n wide and n tall, n from 1 to 19, in memory that holds anything. The parts hold it, and `Game::new` gives
+/// it by value.
 pub fn open(n: u16, memory: &mut [u8]) -> Result<Parts<'_>, Closed<'_>>
-    ensures { MatchResult result (λ p. New n (memory_in p) (length p.scratch.now)) (λ e. (e.memory.now ≡ memory.old) × NotOpened n (length memory.old) e.why) }
+    ensures { MatchResult result
+        (λ p. New n (memory_in p) (length p.scratch.now))
+        (λ e. (e.memory.now ≡ memory.old) × NotOpened n (length memory.old) e.why) }
 {
-    // A `let .. else`, since the check hands on the size. The refusals hand the memory back.
     let Some(size) = Size::new(n) else {
         return Err(Closed {
             why: Refusal::BadSize,
             memory,
         });
     };
-    if memory.len() < memory_for(size) {
+    let Some(_) = memory.len().checked_sub(memory_for(size)) else {
         return Err(Closed {
             why: Refusal::SmallMemory,
             memory,
         });
-    }
+    };
     let cells = usize::from(size.cells());
     let (stones, rest) = memory.split_at_mut(cells);
     let (log, rest) = rest.split_at_mut(2 * cells);
@@ -74,9 +77,9 @@ pub fn open(n: u16, memory: &mut [u8]) -> Result<Parts<'_>, Closed<'_>>
     })
 }
 
-// Takes a call by the rules or turns it away, and writes the answer's bytes to the front of `answer`: how many they are. None if
-// `answer` has no room for every answer, two bytes for each cell of the board and 8 more; then nothing changes. The parts come and go
-// by value, and are taken apart for `serve`: behind a `&mut` two of them could not be lent in one call.
+/// Takes a call by the rules or turns it away, and writes the answer's bytes to the front of `answer`: how many they are. None if
+/// `answer` has no room for every answer, two bytes for each cell of the board and 8 more; then nothing changes.
+// The parts come and go by value: behind a `&mut` two of them could not be lent in one call.
 pub fn call<'a>(
     game: Game,
     parts: Parts<'a>,
@@ -94,7 +97,6 @@ pub fn call<'a>(
     if answer.len() < 2 * cells + 8 {
         return (game, parts, None);
     }
-    // A `match`, and no `let .. else`: the refusal says why.
     let call = match wire::read_call(bytes) {
         Ok(call) => call,
         Err(why) => {
@@ -127,4 +129,53 @@ pub fn call<'a>(
         scratch,
     };
     (next, parts, Some(show(reply, answer)))
+}
+
+/// Where the bytes of answers go.
+pub trait Sink {
+    // it was given these answers, each a row of bytes, the oldest first. A relation, since a sink need not keep all that it is given:
+    // one that counts agrees with every list of so many answers
+    ghost heard: { Self → List (List ℕ) → Type 0 };
+
+    /// Takes the bytes of one more answer.
+    fn hear(&mut self, answer: &[u8])
+        ensures { (answers : List (List ℕ)) → heard self.old answers → heard self.new (answers ++ answer.now ∷ []) };
+}
+
+// Serves the calls in their order, and gives the bytes of each answer to the sink.
+fn serve_all<S: Sink>(mut game: Game, mut parts: Parts<'_>, calls: &[&[u8]], sink: &mut S)
+    requires holds { Holds game (memory_in parts) }
+    requires room { Room game.size.n (length parts.scratch.now) (2 * (game.size.n * game.size.n)) }
+    ensures { (last : games.Game)
+        × Hears (formal game (memory_in parts.entry)) (rows_of calls.now) last
+        (S.Sink.heard sink.old) (S.Sink.heard sink.new) }
+{
+    // Room for every answer on the largest board: two bytes for each of its cells and 8 more.
+    let mut answer = [0; 730];
+    for bytes in calls {
+        let (next, left, written) = call(game, parts, bytes, &mut answer);
+        game = next;
+        parts = left;
+        sink.hear(&answer[..written.unwrap()]);
+    }
+}
+
+/// A whole game: a new board n wide and n tall, in memory that holds anything, and calls in bytes. Each is answered, and the sink
+/// hears the answers' bytes. If no board is opened it hears nothing.
+pub fn play<'a, S: Sink>(
+    n: u16,
+    memory: &'a mut [u8],
+    calls: &[&[u8]],
+    sink: &mut S,
+) -> Result<(), Closed<'a>>
+    ensures played { MatchResult result
+        (λ _. Plays n (rows_of calls.now) (S.Sink.heard sink.old) (S.Sink.heard sink.new))
+        (λ e. (e.memory.now ≡ memory.old) × NotOpened n (length memory.old) e.why
+        × (sink.new ≡ sink.old)) }
+    ensures promised { PlaysSuffice }
+{
+    let parts = open(n, memory)?;
+    let size = Size::new(n).unwrap();
+    serve_all(Game::new(size), parts, calls, sink);
+    Ok(())
 }

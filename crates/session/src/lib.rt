@@ -2,16 +2,13 @@
 #![tactic(auto)]
 
 mod bytes;
-mod calls;
 mod desk;
 mod lent;
 mod reply;
-mod runs;
 mod serve;
 mod unopened;
 
 pub use desk::Desk;
-pub use lent::{Closed, Parts, call, memory_for, open};
-pub use reply::{Reply, with_way};
-pub use runs::{Sink, contracts_suffice, run};
+pub use lent::{Closed, Parts, Sink, call, memory_for, open, play};
+pub use reply::Reply;
 pub use unopened::Unopened;

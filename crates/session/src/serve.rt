@@ -5,17 +5,16 @@ ghost use Rattle.hexboard.specs.Games as games;
 ghost use Rattle.hexboard.specs.Words.{words};
 ghost use Rattle.history.specs.Holds.{lent, formal, Holds};
 ghost use Rattle.wire.specs.declared.answer.Answer.TheVariants.{Refused};
-ghost use Rattle.verdict.specs.Verdicts.{bytes_of_table};
+ghost use Rattle.endgame.specs.Verdicts.{bytes_of_table};
 ghost use Rattle.session.specs.Replies.{replied, way_cells, HasBytes};
 ghost use Rattle.session.specs.Serving.{Room, beside, Told, Answered};
 ghost use Rattle.session.specs.Short.{Short};
 ghost use Rattle.session.specs.Told.{told_who, found_cells};
 
 use crate::reply::Reply;
+use endgame::{Grouped, Verdict};
 use hexboard::Side;
 use history::Game;
-use links::Grouped;
-use verdict::Verdict;
 use wire::{Call, Refusal};
 
 // Serves a call. `scratch` holds anything, before and after; a way is written to the front of `way`. The parts of the memory come one by
@@ -98,7 +97,8 @@ fn can_force(game: Game, stones: &[u8], parents: &[u8], borders: &[u8], scratch:
         parents,
         borders,
     };
-    match verdict::can_force(&position, turn, scratch) {
+    let (verdict, _) = endgame::can_force(&position, turn, scratch);
+    match verdict {
         Verdict::Yes(cell) => Reply::Yes(Some(cell)),
         Verdict::No => Reply::No,
         Verdict::TooMany => Reply::TooMany,

@@ -6,7 +6,7 @@ use std::alloc::AllocError;
 use thiserror::Error;
 use wire::Refusal;
 
-// The size is refused, or there is no memory.
+/// The size is refused, or there is no memory.
 #[derive(Clone, Copy, Debug, Drop, PartialEq, Eq, Error)]
 pub enum Unopened {
     #[error("{0}")]

@@ -2,7 +2,8 @@
 #![tactic(auto)]
 
 use driver::Limits;
-use programs::{Last, Program};
+use hexboard::Size;
+use programs::{Program, show_board};
 
 const HELP: &str =
     "show: reads calls from standard input, a line each, and prints the board that they leave and who has won
@@ -17,9 +18,10 @@ fn main(rt: HostRuntime) -> anyhow::Result<()> {
         name: "show",
         help: HELP,
         limits: Limits {
-            largest: 7,
-            ends: Some(10),
+            largest: Size::new(7).unwrap(),
+            ends: 10,
         },
+        flags: &[],
     };
-    programs::run(&rt, program, &Last)
+    show_board(&rt, program)
 }

@@ -1,4 +1,4 @@
-// Boards: which cells are next to each other, what touches a border, and which stones come first.
+// Boards: which cells are next to each other, and what touches a border.
 use hexboard::{Neighbours, NoSide, Side, Size};
 use std::test::Fail;
 
@@ -57,20 +57,6 @@ fn one_cell_touches_all_borders(rt: HostRuntime) {
     let size = Size::new(1).unwrap();
     assert!(rt; hexboard::borders(size, Side::One, 0) == 3);
     assert!(rt; hexboard::borders(size, Side::Two, 0) == 3);
-}
-
-#[test]
-fn first_two(rt: HostRuntime) -> Result<(), Fail> {
-    let size = Size::new(3).unwrap();
-    let mut cells = [0; 9];
-    hexboard::place(&mut cells, Side::One, 8)?;
-    hexboard::place(&mut cells, Side::Two, 4)?;
-    hexboard::place(&mut cells, Side::One, 0)?;
-    assert!(rt; hexboard::first_pair(size, &cells) == None);
-    hexboard::place(&mut cells, Side::Two, 6)?;
-    assert!(rt; hexboard::first_pair(size, &cells) == Some((4, 6)));
-    assert!(rt; hexboard::count_empty(&cells) == 5);
-    Ok(())
 }
 
 // The line of a number that no side has.

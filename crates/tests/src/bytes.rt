@@ -2,7 +2,7 @@
 use hexboard::Side;
 use std::test::Fail;
 use wire::{
-    Answer, Call, Refusal, Unwritten, cell_at, count_cells, read_answer, read_call, write_answer,
+    Answer, Call, Refusal, Unwritten, count_cells, read_answer, read_call, write_answer,
     write_call, write_way_head,
 };
 
@@ -109,8 +109,6 @@ fn cells_of_a_way(rt: HostRuntime) {
     let way = [3, 0, 4, 1];
     assert!(rt; count_cells(&way) == Some(2));
     assert!(rt; count_cells(&way[0..3]) == None);
-    assert!(rt; cell_at(&way, 1) == Some(260));
-    assert!(rt; cell_at(&way[0..3], 1) == None);
     let mut out = [9; 6];
     assert!(rt; write_way_head(Side::One, 2, &mut out) == Some(5));
     assert!(rt; out == [2, 1, 0, 2, 0, 9]);

@@ -1,10 +1,8 @@
 // Games played at a desk: what is answered, what is refused first, and that a game can be taken back and played otherwise.
-ghost use Rattle.std.specs.Prelude.{◌≡◌, ◌-◌, ◌^◌, min, length};
-
-use hexboard::Side;
-use session::{Desk, Reply, Sink, Unopened, run};
+use hexboard::{Side, Size};
+use session::{Desk, Reply, Unopened};
 use std::test::Fail;
-use wire::{Answer, Call, Refusal};
+use wire::{Call, Refusal};
 
 // Fails the test unless this is so.
 fn check(holds: bool) -> Result<(), Fail> {
@@ -107,40 +105,48 @@ fn a_game_back_to_the_start(rt: HostRuntime) -> Result<(), Fail> {
     play_to_the_end(&mut desk, &OTHER, Side::One)
 }
 
-// Counts the answers that it hears.
-#[derive(Drop)]
-struct Count {
-    answers: u64,
-}
-
-impl Sink for Count {
-    ghost heard = { λ count answers. count.answers ≡ min (length answers) (2 ^ 64 - 1) };
-
-    fn hear(&mut self, _answer: Answer<&[u8]>) {
-        self.answers = self.answers.saturating_add(1);
-    }
-}
-
+// One board after the other in one memory, the sizes mixed, against desks that were opened for each: every answer is the same.
 #[test]
-fn a_list_of_calls(rt: HostRuntime) -> Result<(), Fail> {
-    let mut heard = Count { answers: 0 };
-    let calls = [
-        Call::Move(1),
-        Call::CanForce,
-        Call::Move(2),
-        Call::Move(3),
-        Call::Who,
-    ];
-    let mut desk = run(rt.alloc(), 2, &calls, &mut heard)?;
-    assert!(rt; heard.answers == 5);
-    assert!(rt; desk.who() == Some((Side::One, 2)));
+fn every_size_in_one_memory(rt: HostRuntime) -> Result<(), Fail> {
+    let mut room = Desk::with_room(rt.alloc(), Size::new(19).unwrap())?;
+    for k in 0u16..19 {
+        let n = k * 7 % 19 + 1;
+        let mut desk = Desk::open(rt.alloc(), n)?;
+        assert!(rt; room.reopen(n) == Ok(()));
+        assert!(rt; room.size().width() == n && room.largest().width() == 19);
+        same_answers(&mut room, &mut desk)?;
+    }
     Ok(())
 }
 
+// Plays at two desks alike, along a diagonal, and compares what they answer.
+fn same_answers(one: &mut Desk, other: &mut Desk) -> Result<(), Fail> {
+    for k in 0u16..20 {
+        for call in [Call::CanForce, Call::Move(k * 18), Call::Move(k), Call::Who] {
+            let reply = one.serve(call);
+            check(other.serve(call) == reply)?;
+            check(one.answer(reply) == other.answer(reply))?;
+        }
+        check(one.cells() == other.cells())?;
+    }
+    Ok(())
+}
+
+// What is refused when a board is opened again leaves the game as it was.
 #[test]
-fn no_board_and_nothing_heard(rt: HostRuntime) {
-    let mut heard = Count { answers: 0 };
-    let refused = run(rt.alloc(), 20, &[Call::Who], &mut heard).err();
-    assert!(rt; refused == Some(Unopened::Refused(Refusal::BadSize)));
-    assert!(rt; heard.answers == 0);
+fn no_room_for_a_board(rt: HostRuntime) -> Result<(), Fail> {
+    let mut desk = Desk::with_room(rt.alloc(), Size::new(3).unwrap())?;
+    play(&mut desk, &[4, 0])?;
+    for (n, why) in [
+        (0, Refusal::BadSize),
+        (4, Refusal::SmallMemory),
+        (20, Refusal::BadSize),
+    ] {
+        assert!(rt; desk.reopen(n) == Err(why));
+        assert!(rt; desk.cells() == [2, 0, 0, 0, 1, 0, 0, 0, 0].as_slice());
+    }
+    assert!(rt; desk.reopen(2) == Ok(()));
+    assert!(rt; desk.reopen(3) == Ok(()));
+    assert!(rt; desk.cells() == [0; 9].as_slice());
+    Ok(())
 }

@@ -1,5 +1,5 @@
 // Groups of stones: joined by a stone, and apart again without it.
-use groups::{Groups, same_group, touches_both};
+use groups::{Groups, root, touches_both};
 use hexboard::{Side, Size, Unplaced};
 use std::test::Fail;
 
@@ -31,6 +31,11 @@ impl Board {
         }
     }
 
+    // Whether two stones of a side are in one group.
+    fn joins(&self, one: u16, other: u16) -> bool {
+        root(&self.parents, one) == root(&self.parents, other)
+    }
+
     // A stone comes to the board and to its groups.
     fn play(&mut self, side: Side, cell: u16) -> Result<(), Unplaced> {
         hexboard::place(&mut self.cells, side, cell)?;
@@ -57,15 +62,15 @@ fn three_groups_joined_and_apart_again(rt: HostRuntime) -> Result<(), Fail> {
         board.play(side, cell)?;
     }
     for (one, other) in [(1, 5), (5, 6), (1, 6), (0, 8)] {
-        assert!(rt; !same_group(&board.parents, one, other));
+        assert!(rt; !board.joins(one, other));
     }
     let parents_before = board.parents;
     let borders_before = board.borders;
     board.play(Side::One, 4)?;
     for (one, other) in [(1, 5), (5, 6), (1, 6)] {
-        assert!(rt; same_group(&board.parents, one, other));
+        assert!(rt; board.joins(one, other));
     }
-    assert!(rt; !same_group(&board.parents, 0, 8));
+    assert!(rt; !board.joins(0, 8));
     assert!(rt; touches_both(&board.borders, 4));
     Groups {
         parents: &mut board.parents,
@@ -83,9 +88,9 @@ fn apart_across_the_end_of_a_row(rt: HostRuntime) -> Result<(), Fail> {
     let mut board = Board::new();
     board.play(Side::One, 2)?;
     board.play(Side::One, 3)?;
-    assert!(rt; !same_group(&board.parents, 2, 3));
+    assert!(rt; !board.joins(2, 3));
     board.play(Side::One, 1)?;
-    assert!(rt; same_group(&board.parents, 2, 3));
+    assert!(rt; board.joins(2, 3));
     assert!(rt; !touches_both(&board.borders, 1));
     Ok(())
 }

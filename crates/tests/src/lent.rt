@@ -1,7 +1,9 @@
-// Games in lent memory: what opening refuses, and calls in bytes.
+// Games in lent memory: what opening refuses, calls in bytes, and whole games.
+ghost use Rattle.std.specs.Prelude.{◌≡◌, ◌-◌, ◌^◌, min, length, ⊤};
+
 use hexboard::Size;
 use history::Game;
-use session::{Closed, Parts, call, memory_for, open};
+use session::{Closed, Parts, Sink, call, memory_for, open, play};
 use std::alloc::{AllocError, Global};
 use std::test::Fail;
 use wire::Refusal;
@@ -77,5 +79,92 @@ fn no_room_for_an_answer(rt: HostRuntime) -> Result<(), Fail> {
     let (game, parts, written) = call(Game::new(size), parts, &[0, 0, 0], &mut short);
     assert!(rt; written == None && short == [9; 9]);
     assert!(rt; game.count() == 0 && parts.stones.first() == Some(&0));
+    Ok(())
+}
+
+// Counts the answers that it hears.
+#[derive(Drop)]
+struct Count {
+    answers: u64,
+}
+
+impl Sink for Count {
+    ghost heard = { λ count answers. count.answers ≡ min (length answers) (2 ^ 64 - 1) };
+
+    fn hear(&mut self, _answer: &[u8]) {
+        self.answers = self.answers.saturating_add(1);
+    }
+}
+
+// Compares the answers that it hears with `ANSWERS`.
+#[derive(Drop)]
+struct Script {
+    heard: usize,
+    surprised: bool,
+}
+
+impl Sink for Script {
+    ghost heard = { λ _ _. ⊤ };
+
+    fn hear(&mut self, answer: &[u8]) {
+        match ANSWERS.get(self.heard) {
+            Some(awaited) if *awaited == answer => self.heard += 1,
+            _ => self.surprised = true,
+        }
+    }
+}
+
+// A game on 2 by 2 that side 1 wins, with bytes that are no call, and one after the end.
+static CALLS: [&[u8]; 8] = [
+    &[0, 1, 0],
+    &[3],
+    &[0, 2],
+    &[0, 2, 0],
+    &[0, 3, 0],
+    &[2],
+    &[0, 0, 0],
+    &[1],
+];
+
+static ANSWERS: [&[u8]; 8] = [
+    &[1, 0, 0],
+    &[4],
+    &[0, 1, 0, 2, 0],
+    &[1, 1, 0],
+    &[1, 2, 0],
+    &[2, 1, 0, 2, 0, 1, 0, 3, 0],
+    &[0, 4, 0, 0, 0],
+    &[1, 2, 0],
+];
+
+#[test]
+fn a_whole_game(rt: HostRuntime) -> Result<(), Fail> {
+    let mut memory = [7; 1536];
+    let mut script = Script {
+        heard: 0,
+        surprised: false,
+    };
+    play(2, &mut memory, &CALLS, &mut script)?;
+    assert!(rt; script.heard == 8 && !script.surprised);
+    let mut count = Count { answers: 0 };
+    play(1, &mut memory, &CALLS, &mut count)?;
+    assert!(rt; count.answers == 8);
+    Ok(())
+}
+
+#[test]
+fn no_board_and_nothing_heard(rt: HostRuntime) -> Result<(), Fail> {
+    let mut memory = [7; 1535];
+    for (n, why) in [
+        (0, Refusal::BadSize),
+        (20, Refusal::BadSize),
+        (2, Refusal::SmallMemory),
+    ] {
+        let mut count = Count { answers: 0 };
+        let Err(closed) = play(n, &mut memory, &CALLS, &mut count) else {
+            return Err(Fail::new("opened"));
+        };
+        assert!(rt; closed.why == why && count.answers == 0);
+    }
     Ok(())
 }

@@ -1,24 +1,30 @@
 // Lines that ask, read and written; answers as lines; and a board as text.
+use arrayvec::ArrayString;
 use hexboard::{Side, Size};
 use std::fmt::Write;
 use std::test::Fail;
-use text::{Line, read_line, write_board, write_outcome};
+use text::{Drawing, Line, Outcome, read_line};
 use wire::{Answer, Call, NoRefusal, Refusal};
 
-static LINES: [(&[u8], Result<Line, usize>); 18] = [
+static LINES: [(&[u8], Result<Line, usize>); 23] = [
     (b"board 3", Ok(Line::Board(3))),
+    (b"board 70000", Ok(Line::Board(65535))),
     (b"move 0", Ok(Line::Call(Call::Move(0)))),
     (b"move 65535", Ok(Line::Call(Call::Move(65535)))),
     (b"move 007", Ok(Line::Call(Call::Move(7)))),
     (b"back", Ok(Line::Call(Call::Back))),
     (b"who", Ok(Line::Call(Call::Who))),
     (b"can force", Ok(Line::Call(Call::CanForce))),
-    (b"move 65536", Err(9)),
+    (b"move 65536", Ok(Line::Call(Call::Move(65535)))),
+    (b"board 99999999999999999999", Ok(Line::Board(65535))),
+    (b"move 70000x", Err(10)),
+    (b"mov", Err(3)),
     (b"move", Err(4)),
     (b"move ", Err(5)),
     (b"move x", Err(5)),
+    (b"board ", Err(6)),
+    (b"board x", Err(6)),
     (b"board -1", Err(6)),
-    (b"bac", Err(3)),
     (b"backs", Err(4)),
     (b"who ", Err(3)),
     (b"can  force", Err(4)),
@@ -81,18 +87,35 @@ fn no_refusals_line(rt: HostRuntime) -> Result<(), Fail> {
     Ok(())
 }
 
-// A board with a cell too few, whose last is drawn as empty, and a way of three stones of side 1.
+// A board with a cell too few, whose last is drawn as empty, and a way of three stones of side 1. It
+// goes to a text of a fixed size, which needs no memory; into a smaller one it does not fit.
 #[test]
 fn draws_a_board(rt: HostRuntime) -> Result<(), Fail> {
     let size = Size::new(3).ok_or_else(|| Fail::new("no board is 3 wide"))?;
-    let mut text = String::new(rt.alloc());
-    write_board(
-        &mut text,
+    let drawing = Drawing {
         size,
-        &[1, 2, 0, 2, 1, 0, 0, 1],
-        &[0, 0, 4, 0, 7, 0],
-    )?;
-    write_outcome(&mut text, Some(Side::One))?;
-    assert!(rt; text.as_str() == "A 2 .\n 2 A .\n  . A .\nside 1 has won");
+        cells: &[1, 2, 0, 2, 1, 0, 0, 1],
+        way: &[0, 0, 4, 0, 7, 0],
+    };
+    let mut text = ArrayString::<21>::new();
+    write!(&mut text, "{drawing}")?;
+    assert!(rt; text.as_str() == "A 2 .\n 2 A .\n  . A .\n");
+    let mut small = ArrayString::<20>::new();
+    assert!(rt; write!(&mut small, "{drawing}").is_err());
+    Ok(())
+}
+
+static OUTCOMES: [(Option<Side>, &str); 3] = [
+    (Some(Side::One), "side 1 has won"),
+    (Some(Side::Two), "side 2 has won"),
+    (None, "nobody has connected"),
+];
+
+#[test]
+fn writes_outcomes(rt: HostRuntime) -> Result<(), Fail> {
+    for (winner, line) in &OUTCOMES {
+        let written = format!(in rt.alloc(); "{}", Outcome(*winner))?;
+        assert!(rt; written.as_str() == *line);
+    }
     Ok(())
 }

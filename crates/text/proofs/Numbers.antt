@@ -1,118 +1,69 @@
 -- Decimal numbers, read digit by digit.
-use Rattle.std.proofs.Common.{◌≡◌, ℕ, ◌+◌, ◌<◌, ◌≤◌, true, List, [], ◌∷◌, ◌++◌, length, get_or, take, drop, sym, refl, ap, ◌∙◌, subst, arith}
-use Rattle.std.specs.Char.{is_ascii_digit}
-use Rattle.std.specs.Str.{all_ascii_digits}
-use Rattle.std.proofs.lemmas.List.{take_more, take-take, take_all, take-append-drop, drop_more, length-take-le, get_or-take, append_assoc, append-nil}
-use Rattle.std.proofs.lemmas.Bool.Decides.{nat_tests}
-use Rattle.text.specs.Lines.{value_with_digit, value, Decimal, SomeDecimal}
-use Rattle.text.specs.Places.{Stops}
+use Rattle.std.proofs.Common.{◌≡◌, ℕ, ◌+◌, ◌*◌, ◌<◌, ◌≤◌, codes, min, List, [], ◌++◌, length, get_or, take, sym, ap, ◌∙◌, subst, arith}
+use Rattle.std.specs.Char.{digit_value}
+use Rattle.std.specs.Str.Parse.{AllDigits, IsNumeral, digits_value}
+use Rattle.std.proofs.lemmas.Int.Digits.{digits_push, digits_more, digits_value_more}
+use Rattle.std.proofs.lemmas.List.{take_all, length-append, length-take-le, get_or-take, get_or_append_left, append-nil}
+use Rattle.std.proofs.lemmas.Str.{digit_value_digit}
+use Rattle.std.proofs.lemmas.Str.Parse.{digit_at}
+use Rattle.text.specs.Lines.{ReadsAs}
+use Rattle.text.specs.Places.{Begins, Stops}
 
-value_append : (v : ℕ) (xs ys : List ℕ) → value v (xs ++ ys) ≡ value (value v xs) ys
-value_append v [] ys = refl
-value_append v (x ∷ xs) ys = value_append (value_with_digit v x) xs ys
-
--- a number only grows with the digits behind it
-value_grows : (v : ℕ) (xs : List ℕ) → v ≤ value v xs
-value_grows v [] = omega arith
-value_grows v (x ∷ xs) = omega (arith, value_grows (value_with_digit v x) xs)
-
--- a row of digits is digits in each of its two parts
-digits_front : (xs ys : List ℕ) → all_ascii_digits (xs ++ ys) ≡ true → all_ascii_digits xs ≡ true
-digits_front [] ys h = refl
-digits_front (x ∷ xs) ys h = grind (arith, nat_tests, digits_front xs ys)
-
-digits_behind : (xs ys : List ℕ) → all_ascii_digits (xs ++ ys) ≡ true → all_ascii_digits ys ≡ true
-digits_behind [] ys h = h
-digits_behind (x ∷ xs) ys h = digits_behind xs ys (grind (arith, nat_tests))
-
-digits_push : (xs : List ℕ) (x : ℕ) → all_ascii_digits xs ≡ true → is_ascii_digit x ≡ true → all_ascii_digits (xs ++ x ∷ []) ≡ true
-digits_push [] x h d = grind (arith, nat_tests)
-digits_push (y ∷ xs) x h d = let rest : all_ascii_digits (xs ++ x ∷ []) ≡ true = digits_push xs x (grind (arith, nat_tests)) d in grind (arith, nat_tests)
-
--- the first bytes, as many as at, write the number v
+-- the first bytes, as many as at, are digits, and what they are read as is v
 pub record Sofar (bytes : List ℕ) (at v : ℕ) : Type 0 where
-  pub all : all_ascii_digits (take at bytes) ≡ true
-  pub is : value 0 (take at bytes) ≡ v
-  pub fits : v ≤ 65535
-
-pub sofar_none : (bytes : List ℕ) → Sofar bytes 0 0
-sofar_none bytes = record { all = refl; is = refl; fits = omega arith }
+  pub all : AllDigits 10 (take at bytes)
+  pub number : v ≡ min (digits_value 10 (take at bytes)) 65535
 
 -- one more digit
-pub sofar_more : (bytes : List ℕ) (at v : ℕ) → at < length bytes → Sofar bytes at v → is_ascii_digit (get_or bytes at 0) ≡ true →
-    value_with_digit v (get_or bytes at 0) ≤ 65535 → Sofar bytes (at + 1) (value_with_digit v (get_or bytes at 0))
-sofar_more bytes at v h sofar digit fits =
-    let front = take_more bytes at 0 h in
-    record {
-      all = subst (λ ds. all_ascii_digits ds ≡ true) (sym front) (digits_push (take at bytes) (get_or bytes at 0) sofar.all digit);
-      is = ap (value 0) front ∙ (value_append 0 (take at bytes) _ ∙ ap (λ w. value_with_digit w (get_or bytes at 0)) sofar.is);
-      fits = fits;
-    }
+pub sofar_more : (bytes : List ℕ) (at v : ℕ) → at < length bytes → Sofar bytes at v → digit_value (get_or bytes at 0) < 10 →
+    Sofar bytes (at + 1) (min (v * 10 + digit_value (get_or bytes at 0)) 65535)
+sofar_more bytes at v h sofar digit = record {
+  all = digits_more 10 bytes at h sofar.all digit;
+  number = omega (arith, digits_value_more 10 bytes at h, sofar.number);
+}
 
--- all of them are a number, if there are any
-pub sofar_all : (bytes : List ℕ) (at v : ℕ) → at ≡ length bytes → 0 < length bytes → Sofar bytes at v → Decimal bytes v
+-- all of them, if there are any
+pub sofar_all : (bytes : List ℕ) (at v : ℕ) → at ≡ length bytes → 0 < length bytes → Sofar bytes at v → ReadsAs bytes v
 sofar_all bytes at v e some sofar =
     let whole : take at bytes ≡ bytes = take_all at bytes (omega arith) in
     record {
-      some = some;
-      all = subst (λ ds. all_ascii_digits ds ≡ true) whole sofar.all;
-      is = ap (value 0) (sym whole) ∙ sofar.is;
-      fits = sofar.fits;
+      numeral = (some, subst (AllDigits 10) whole sofar.all);
+      number = sofar.number ∙ ap (λ ds. min (digits_value 10 ds) 65535) whole;
     }
 
-pub zero_decimal : SomeDecimal (48 ∷ [])
-zero_decimal = (0, record { some = omega arith; all = refl; is = refl; fits = omega arith })
+pub zero_numeral : IsNumeral 10 (codes "0")
+zero_numeral = (omega arith, (omega arith, tt))
 
--- digits are the beginning of a number, if only with one more digit behind them
-begins_decimal : (ds : List ℕ) → all_ascii_digits ds ≡ true → value 0 ds ≤ 65535 → (rest : List ℕ) × SomeDecimal (ds ++ rest)
-begins_decimal [] all fits = (48 ∷ [], zero_decimal)
-begins_decimal (d ∷ ds) all fits =
-    ([], subst SomeDecimal (sym (append-nil (d ∷ ds))) (value 0 (d ∷ ds), record { some = omega arith; all = all; is = refl; fits = fits }))
+-- digits are the beginning of a number, since one more digit may stand behind them
+digits_begin : (ds : List ℕ) → AllDigits 10 ds → Begins (IsNumeral 10) ds
+digits_begin ds all = (codes "0", (omega (arith, length-append ds (codes "0")), digits_push 10 ds 48 all (omega arith)))
 
--- what begins with these digits and with a byte that does not fit behind them is no number
-no_decimal : (bytes : List ℕ) (at v : ℕ) → Sofar bytes at v →
-    (is_ascii_digit (get_or bytes at 0) ≡ true → value_with_digit v (get_or bytes at 0) ≤ 65535 → ⊥) →
-    (rest : List ℕ) → SomeDecimal (take at bytes ++ get_or bytes at 0 ∷ rest) → ⊥
-no_decimal bytes at v sofar unfit rest some =
-    let d = some.1 in
-    let b = get_or bytes at 0 in
-    let behind = digits_behind (take at bytes) (b ∷ rest) d.all in
-    let whole : value (value_with_digit v b) rest ≡ some.0 =
-    ap (λ w. value w (b ∷ rest)) (sym sofar.is) ∙ (sym (value_append 0 (take at bytes) (b ∷ rest)) ∙ d.is) in
-    unfit (grind (arith, nat_tests)) (omega (arith, value_grows (value_with_digit v b) rest, d.fits))
-
--- a front that reaches past a place has the byte there behind the front up to it
-front_past : (bytes : List ℕ) (at q : ℕ) → at < q → q ≤ length bytes → (rest : List ℕ) →
-    take q bytes ++ rest ≡ take at bytes ++ get_or bytes at 0 ∷ (drop (at + 1) (take q bytes) ++ rest)
-front_past bytes at q h l rest =
+-- a number has a digit at each place
+digit_in_front : (bytes : List ℕ) (at q : ℕ) → at < q → q ≤ length bytes → Begins (IsNumeral 10) (take q bytes) → digit_value (get_or bytes at 0) < 10
+digit_in_front bytes at q more l b =
     let long = length-take-le q bytes l in
-    let cut = drop_more (take q bytes) at 0 (omega arith) in
-    let split : take q bytes ≡ take at bytes ++ get_or bytes at 0 ∷ drop (at + 1) (take q bytes) =
-    sym (take-append-drop at (take q bytes)) ∙
-    (ap (λ (xs : List ℕ). take at (take q bytes) ++ xs) cut ∙
-    (ap (λ (xs : List ℕ). xs ++ get_or (take q bytes) at 0 ∷ drop (at + 1) (take q bytes)) (take-take at q bytes (omega arith)) ∙
-    ap (λ x. take at bytes ++ x ∷ drop (at + 1) (take q bytes)) (get_or-take q bytes at 0 h))) in
-    ap (λ (xs : List ℕ). xs ++ rest) split ∙ append_assoc (take at bytes) _ rest
+    let digit = digit_at (take q bytes ++ b.0) at b.1.1 (omega (arith, length-append (take q bytes) b.0)) in
+    let same : get_or (take q bytes ++ b.0) at 0 ≡ get_or bytes at 0 =
+    get_or_append_left (take q bytes) b.0 0 at (omega arith) ∙ get_or-take q bytes at 0 more in
+    omega (arith, digit_value_digit (get_or bytes at 0) (omega arith, omega arith))
 
--- where a byte does not fit, the number stops
-pub sofar_stops : (bytes : List ℕ) (at v : ℕ) → at < length bytes → Sofar bytes at v →
-    (is_ascii_digit (get_or bytes at 0) ≡ true → value_with_digit v (get_or bytes at 0) ≤ 65535 → ⊥) → Stops SomeDecimal bytes at
-sofar_stops bytes at v h sofar unfit =
+-- where a byte is no digit, the number stops
+pub sofar_stops : (bytes : List ℕ) (at v : ℕ) → at < length bytes → Sofar bytes at v → (digit_value (get_or bytes at 0) < 10 → ⊥) →
+    Stops (IsNumeral 10) bytes at
+sofar_stops bytes at v h sofar other =
     let whole = take_all (length bytes) bytes (omega arith) in
-    let longer : (q : ℕ) → at < q → q ≤ length bytes → (rest : List ℕ) → SomeDecimal (take q bytes ++ rest) → ⊥ =
-    λ q more l rest d. no_decimal bytes at v sofar unfit _ (subst SomeDecimal (front_past bytes at q more l rest) d) in
     record {
-      none = λ d. longer (length bytes) h (omega arith) [] (subst SomeDecimal (sym (append-nil _ ∙ whole)) d);
+      none = λ d. other (digit_in_front bytes at (length bytes) h (omega arith) ([], subst (IsNumeral 10) (sym (append-nil _ ∙ whole)) d));
       within = omega arith;
-      begins = begins_decimal (take at bytes) sofar.all (omega (arith, sofar.is, sofar.fits));
-      no_further = longer;
+      begins = digits_begin (take at bytes) sofar.all;
+      longest = λ q more l b. other (digit_in_front bytes at q more l b);
     }
 
 -- no digits are no number yet
-pub empty_stops : (bytes : List ℕ) → length bytes ≡ 0 → Stops SomeDecimal bytes 0
+pub empty_stops : (bytes : List ℕ) → length bytes ≡ 0 → Stops (IsNumeral 10) bytes 0
 empty_stops bytes e = record {
-  none = λ d. omega (arith, d.1.some);
+  none = λ d. omega (arith, d.0);
   within = omega arith;
-  begins = begins_decimal [] refl (omega arith);
-  no_further = λ q more l. absurd (omega arith);
+  begins = digits_begin [] tt;
+  longest = λ q more l. absurd (omega arith);
 }

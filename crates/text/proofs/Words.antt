@@ -6,7 +6,7 @@ use Rattle.std.proofs.str.Laws.{order}
 use Rattle.wire.specs.declared.call.Call.{Call}
 use Rattle.wire.specs.declared.call.Call.TheVariants.{Move}
 use Rattle.text.specs.Lines.{Word, SomeWord}
-use Rattle.text.specs.Places.{Agree, Stops}
+use Rattle.text.specs.Places.{Agree, Begins, Stops}
 
 -- a word, and behind it bytes of the form G
 abbrev pub After : List ℕ → (List ℕ → Type 0) → List ℕ → Type 0
@@ -39,7 +39,7 @@ module _ (word bytes : List ℕ) (p : ℕ) (a : Agree word bytes p) where
       drop p word ++ x,
       (x, ap (λ (xs : List ℕ). xs ++ (drop p word ++ x)) same_front ∙ (sym (append_assoc (take p word) (drop p word) x) ∙ ap (λ (xs : List ℕ). xs ++ x) (take-append-drop p word)), g),
     );
-    no_further = λ q more h rest f. parted short q more h rest f.0 f.1;
+    longest = λ q more h b. parted short q more h b.0 b.1.0 b.1.1;
   }
 
   module _ (whole : p ≡ length word) where
@@ -69,8 +69,8 @@ module _ (word bytes : List ℕ) (p : ℕ) (a : Agree word bytes p) where
               g.begins.1,
             ),
           );
-          no_further = λ k more h rest f.
-              g.no_further (k - p) (omega arith) (omega arith) rest (subst G (behind_it k (omega arith) rest f.0 f.1) f.2);
+          longest = λ k more h b.
+              g.longest (k - p) (omega arith) (omega arith) (b.0, subst G (behind_it k (omega arith) b.0 b.1.0 b.1.1) b.1.2);
         }
 
     -- what stands behind the word, if it is of the form G
@@ -84,7 +84,7 @@ stops_as F G to from bytes p f = record {
   none = λ g. f.none (from bytes g);
   within = f.within;
   begins = (f.begins.0, to _ f.begins.1);
-  no_further = λ q more h rest g. f.no_further q more h rest (from _ g);
+  longest = λ q more h b. f.longest q more h (b.0, from _ b.1);
 }
 
 -- a word alone is a word with nothing behind it
@@ -96,7 +96,7 @@ something_stops cs some = record {
   none = λ e. omega (arith, ap length e);
   within = omega arith;
   begins = ([], refl);
-  no_further = λ q more h rest e. let long = length-append (take q cs) rest in omega (arith, length-take-le q cs h, ap length e);
+  longest = λ q more h b. let long = length-append (take q cs) b.0 in omega (arith, length-take-le q cs h, ap length b.1);
 }
 
 alone : (word cs : List ℕ) → Word word cs → After word Nothing cs
@@ -132,10 +132,10 @@ either_stops F G bytes p q f g = record {
   within = omega (arith, f.within, g.within);
   begins =
       ⊎_elim
-      (λ less. let m : max p q ≡ q = omega arith in subst (λ n. (rest : List ℕ) × (F (take n bytes ++ rest) ⊎ G (take n bytes ++ rest))) (sym m) (g.begins.0, inr g.begins.1))
-      (λ more. let m : max p q ≡ p = omega arith in subst (λ n. (rest : List ℕ) × (F (take n bytes ++ rest) ⊎ G (take n bytes ++ rest))) (sym m) (f.begins.0, inl f.begins.1))
+      (λ less. let m : max p q ≡ q = omega arith in subst (λ n. Begins (λ cs. F cs ⊎ G cs) (take n bytes)) (sym m) (g.begins.0, inr g.begins.1))
+      (λ more. let m : max p q ≡ p = omega arith in subst (λ n. Begins (λ cs. F cs ⊎ G cs) (take n bytes)) (sym m) (f.begins.0, inl f.begins.1))
       (order p q);
-  no_further = λ k more h rest. ⊎_elim (f.no_further k (omega arith) h rest) (g.no_further k (omega arith) h rest);
+  longest = λ k more h b. ⊎_elim (λ e. f.longest k (omega arith) h (b.0, e)) (λ e. g.longest k (omega arith) h (b.0, e)) b.1;
 }
 
 -- words, each with the call that it asks for

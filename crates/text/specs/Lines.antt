@@ -1,30 +1,17 @@
 -- The lines of text that can be read, what each asks for, and the one that is written for it. Definitions only.
-use Rattle.std.specs.Prelude.{◌≡◌, ℕ, ◌+◌, ◌-◌, ◌*◌, ◌<◌, ◌≤◌, true, ◌⊎◌, List, [], ◌∷◌, ◌++◌, length, codes, decimal}
-use Rattle.std.specs.Str.{all_ascii_digits}
+use Rattle.std.specs.Prelude.{◌≡◌, ℕ, ◌≤◌, min, ◌⊎◌, List, ◌++◌, codes, decimal}
+use Rattle.std.specs.Str.Parse.{IsNumeral, digits_value}
 use Rattle.wire.specs.declared.call.Call.{Call}
 use Rattle.wire.specs.declared.call.Call.TheVariants.{Move, Back, Who, CanForce}
 use Rattle.text.specs.declared.reading.Line.{Line}
 use Rattle.text.specs.declared.reading.Line.TheVariants as line
 
--- the number that v becomes with one more digit, a byte from 48 on, behind it
-abbrev pub value_with_digit : ℕ → ℕ → ℕ
-value_with_digit v byte = v * 10 + (byte - 48)
-
--- the number that v becomes with these digits behind it
-abbrev pub value : ℕ → List ℕ → ℕ
-value v [] = v
-value v (b ∷ bs) = value (value_with_digit v b) bs
-
--- a decimal number of at most 65535: one digit or more, from 0 to 9, zeros in front allowed
-pub record Decimal (digits : List ℕ) (n : ℕ) : Type 0 where
-  pub some : 0 < length digits
-  pub all : all_ascii_digits digits ≡ true
-  pub is : value 0 digits ≡ n
-  pub fits : n ≤ 65535
-
--- some decimal number
-abbrev pub SomeDecimal : List ℕ → Type 0
-SomeDecimal digits = (n : ℕ) × Decimal digits n
+-- The digits are one or more, from 0 to 9, zeros in front allowed, and are read as the number n:
+-- the one that they write, or 65535 where that is larger. No board has so many cells, or so long a
+-- side.
+pub record ReadsAs (digits : List ℕ) (n : ℕ) : Type 0 where
+  pub numeral : IsNumeral 10 digits
+  pub number : n ≡ min (digits_value 10 digits) 65535
 
 -- these bytes and no others
 abbrev pub Word : List ℕ → List ℕ → Type 0
@@ -34,13 +21,13 @@ Word word bytes = bytes ≡ word
 abbrev pub SomeWord : List ℕ → Type 0
 SomeWord bytes = (Word (codes "can force") bytes ⊎ Word (codes "back") bytes) ⊎ Word (codes "who") bytes
 
--- a word and a decimal number behind it
+-- a word, and behind it digits that are read as n
 abbrev pub Numbered : List ℕ → ℕ → List ℕ → Type 0
-Numbered word n bytes = (digits : List ℕ) × (bytes ≡ word ++ digits) × Decimal digits n
+Numbered word n bytes = (digits : List ℕ) × (bytes ≡ word ++ digits) × ReadsAs digits n
 
--- a word and some decimal number behind it
+-- a word, and behind it the digits of any number
 abbrev pub SomeNumbered : List ℕ → List ℕ → Type 0
-SomeNumbered word bytes = (n : ℕ) × Numbered word n bytes
+SomeNumbered word bytes = (digits : List ℕ) × (bytes ≡ word ++ digits) × IsNumeral 10 digits
 
 -- what the bytes of a call ask for
 abbrev pub Says : List ℕ → Call → Type 0

@@ -1,86 +1,51 @@
-// Writes a board as text, and who has won.
-ghost use Rattle.std.specs.Prelude.{◌≡◌, ℕ, ◌<◌, Bool, List, ◌++◌, Some, string_bytes, OnOk, slice_index};
+// A board as text, and the line that says who has won. Both are written piece by piece, and so need
+// no memory.
+ghost use Rattle.std.specs.Prelude.{◌≡◌, ℕ, ◌<◌, Bool, List, ◌++◌, Some, codes, slice_index};
 ghost use Rattle.hexboard.specs.Words.{words};
 ghost use Rattle.text.specs.Boards.{mark, gap, among, spaces, row_cells, board_lines, outcome_line};
 
 use hexboard::{Side, Size, Words};
 use std::fmt;
-use std::fmt::Write;
 
-// Adds the rows of the board, a line each, from the bytes of its cells, one a cell. The cells of the way, two bytes each, low byte
-// first, are marked; the way may be empty. This is no Display of a public type, since callers have the three apart and would only
-// build a value to write it.
-pub fn write_board(out: &mut String, size: Size, cells: &[u8], way: &[u8]) -> fmt::Result
-    ensures { OnOk result (string_bytes out.new ≡ string_bytes out.old ++ board_lines size.n cells.now (words way.now)) }
-{
-    for row in 0..size.width() {
-        let row = Row {
-            size,
-            cells,
-            way,
-            row,
-        };
-        writeln!(out, "{row}")?;
-    }
-    Ok(())
-}
-
-// Adds the line that says who has won, without its end. This is no Display, since a winner is an Option, a type of std's.
-pub fn write_outcome(out: &mut String, winner: Option<Side>) -> fmt::Result
-    ensures { OnOk result (string_bytes out.new ≡ string_bytes out.old ++ outcome_line winner) }
-{
-    out.write_str(outcome(winner))
-}
-
-fn outcome(winner: Option<Side>) -> &'static str
-    ensures { result.now ≡ outcome_line winner }
-{
-    match winner {
-        Some(Side::One) => "side 1 has won",
-        Some(Side::Two) => "side 2 has won",
-        None => "nobody has connected",
-    }
-}
-
-// A row of a board as it is drawn: the board's size, the bytes of its cells, one a cell, and those of the cells that are marked, two a
-// cell; and which row it is, from 0.
+/// A board, to be written as text: a line for each row, each with its end.
 #[derive(Clone, Copy)]
-struct Row<'a> {
-    size: Size,
-    cells: &'a [u8],
-    way: &'a [u8],
-    row: u16,
-    ghost on_board: { row < size.n },
+pub struct Drawing<'a> {
+    pub size: Size,
+    /// The bytes of the cells by rows, one a cell: the number of the side whose stone stands there,
+    /// or 0. A cell whose byte is missing is drawn as empty.
+    pub cells: &'a [u8],
+    /// The cells whose stones are marked, two bytes a cell, low byte first. There may be none.
+    pub way: &'a [u8],
 }
 
-// The line of the row, without its end: as many spaces as there are rows above it, and its cells, with a space between two of them.
-impl fmt::Display for Row<'_> {
-    ghost output = { λ row. Some (spaces row.row ++ row_cells row.size.n row.cells.now (words row.way.now) row.row) };
+impl fmt::Display for Drawing<'_> {
+    ghost output = { λ board.
+        Some (board_lines board.size.n board.cells.now (words board.way.now)) };
 
     fn fmt<W: fmt::Write>(&self, f: &mut fmt::Formatter<W>) -> fmt::Result {
-        let indent = usize::from(self.row);
-        write!(f, "{:indent$}", "")?;
-        for column in 0..self.size.width() {
-            let cell = self.row * self.size.width() + column;
-            let gap = gap(column);
-            let mark = self.mark(cell);
-            write!(f, "{gap}{mark}")?;
+        for row in 0..self.size.width() {
+            let row = Row { board: *self, row };
+            writeln!(f, "{row}")?;
         }
         Ok(())
     }
 }
 
-impl Row<'_> {
-    // The character of a cell: the number of the side whose stone stands there, if any, or on the way its letter.
+impl Drawing<'_> {
+    // The character of a cell: the number of the side whose stone stands there, if any, or on the
+    // way its letter.
     fn mark(&self, cell: u16) -> &'static str
-        ensures { result.now ≡ mark (slice_index self.now.cells.now cell) (among (words self.now.way.now) cell) }
+        ensures { let marked = among (words self.now.way.now) cell in
+            result.now ≡ mark (slice_index self.now.cells.now cell) marked }
     {
-        match (hexboard::stone(self.cells, cell), self.is_marked(cell)) {
-            (None, _) => ".",
-            (Some(Side::One), false) => "1",
-            (Some(Side::Two), false) => "2",
-            (Some(Side::One), true) => "A",
-            (Some(Side::Two), true) => "B",
+        let Some(side) = hexboard::stone(self.cells, cell) else {
+            return ".";
+        };
+        match (side, self.is_marked(cell)) {
+            (Side::One, false) => "1",
+            (Side::Two, false) => "2",
+            (Side::One, true) => "A",
+            (Side::Two, true) => "B",
         }
     }
 
@@ -92,9 +57,52 @@ impl Row<'_> {
     }
 }
 
+// A row of a board, from 0.
+#[derive(Clone, Copy)]
+struct Row<'a> {
+    board: Drawing<'a>,
+    row: u16,
+    ghost on_board: { row < board.size.n },
+}
+
+// The line of the row, without its end: as many spaces as there are rows above it, and its cells,
+// with a space between two of them.
+impl fmt::Display for Row<'_> {
+    ghost output = { λ row. Some (spaces row.row ++
+        row_cells row.board.size.n row.board.cells.now (words row.board.way.now) row.row) };
+
+    fn fmt<W: fmt::Write>(&self, f: &mut fmt::Formatter<W>) -> fmt::Result {
+        let indent = usize::from(self.row);
+        write!(f, "{:indent$}", "")?;
+        let width = self.board.size.width();
+        for column in 0..width {
+            let gap = gap(column);
+            let mark = self.board.mark(self.row * width + column);
+            write!(f, "{gap}{mark}")?;
+        }
+        Ok(())
+    }
+}
+
 // What stands before the cell in this column: a space if there is a cell before it.
 fn gap(column: u16) -> &'static str
     ensures { result.now ≡ gap column }
 {
     if column == 0 { "" } else { " " }
+}
+
+/// Who has won, if anybody has, to be written as a line without its end.
+#[derive(Clone, Copy)]
+pub struct Outcome(pub Option<Side>);
+
+impl fmt::Display for Outcome {
+    ghost output = { λ outcome. Some (outcome_line outcome.0) };
+
+    fn fmt<W: fmt::Write>(&self, f: &mut fmt::Formatter<W>) -> fmt::Result {
+        f.write_str(match self.0 {
+            Some(Side::One) => "side 1 has won",
+            Some(Side::Two) => "side 2 has won",
+            None => "nobody has connected",
+        })
+    }
 }

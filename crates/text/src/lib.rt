@@ -5,6 +5,6 @@ mod drawing;
 mod laws;
 mod reading;
 
-pub use drawing::{write_board, write_outcome};
+pub use drawing::{Drawing, Outcome};
 pub use laws::{lines_are_read_back, lines_ask_one_thing, rows_are_laid_out};
 pub use reading::{Line, read_line};

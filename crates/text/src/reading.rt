@@ -1,15 +1,16 @@
 // Reads a line of text: what it asks for, or where it ceases to be a line that can be read.
-ghost use Rattle.std.specs.Prelude.{◌≡◌, ℕ, ◌≤◌, true, List, Some, codes, MatchResult};
+ghost use Rattle.std.specs.Prelude.{ℕ, ◌+◌, ◌*◌, ◌<◌, min, List, Some, MatchResult};
 ghost use Rattle.std.specs.Option.{SomeIff};
-ghost use Rattle.std.specs.Char.{is_ascii_digit};
-ghost use Rattle.text.specs.Lines.{value_with_digit, Decimal, SomeDecimal, Word, Numbered, SomeNumbered, Says, SomeWord, asked_by};
+ghost use Rattle.std.specs.Char.{digit_value};
+ghost use Rattle.std.specs.Str.Parse.{IsNumeral};
+ghost use Rattle.text.specs.Lines.{ReadsAs, Word, Numbered, SomeNumbered, Says, SomeWord, asked_by};
 ghost use Rattle.text.specs.Places.{Agree, Stops};
 ghost use Rattle.text.specs.Readings.{Reads};
 
 use std::fmt;
 use wire::Call;
 
-// What a line asks for: a new board of this size, or a call on the board there is.
+/// What a line asks for: a new board, so many cells wide and tall, or a call on the board there is.
 #[derive(Clone, Copy, PartialEq, Eq, Debug)]
 pub enum Line {
     Board(u16),
@@ -31,8 +32,8 @@ impl fmt::Display for Line {
     }
 }
 
-// What the line asks for, or the place of its first byte that does not fit. How far the line goes along with each form is kept for
-// the end, and so each is a match, and no chain of `or_else` in which a place would be handed on from form to form.
+/// What the line, without its end, asks for. A number past 65535 is read as 65535. Where the line
+/// cannot be read, the length of its longest beginning that is the beginning of some line that can.
 pub fn read_line(line: &[u8]) -> Result<Line, usize>
     ensures { Reads line.now result }
 {
@@ -50,9 +51,11 @@ pub fn read_line(line: &[u8]) -> Result<Line, usize>
     }
 }
 
-// The number that stands behind the word, or the place of the first byte that does not fit.
+// What the digits behind the word are read as, or the place of the first byte that does not fit.
 fn number_after(word: &[u8], line: &[u8]) -> Result<u16, usize>
-    ensures { MatchResult result (λ n. Numbered word.now n line.now) (λ p. Stops (SomeNumbered word.now) line.now p) }
+    ensures { MatchResult result
+        (λ n. Numbered word.now n line.now)
+        (Stops (SomeNumbered word.now) line.now) }
 {
     let same = agree(word, line);
     if same < word.len() {
@@ -61,9 +64,10 @@ fn number_after(word: &[u8], line: &[u8]) -> Result<u16, usize>
     number(&line[same..]).map_err(|place| same + place)
 }
 
-// The call that is a word alone, or the place of the first byte that does not fit, as far as the furthest of the words goes.
+// The call that is a word alone, or the place of the first byte that does not fit, as far as the
+// furthest of the words goes.
 fn read_word(line: &[u8]) -> Result<Call, usize>
-    ensures { MatchResult result (λ call. Says line.now call) (λ p. Stops SomeWord line.now p) }
+    ensures { MatchResult result (Says line.now) (Stops SomeWord line.now) }
 {
     let words = [
         (b"back".as_slice(), Call::Back),
@@ -89,7 +93,7 @@ fn agree(word: &[u8], line: &[u8]) -> usize
 
 // Whether the line is the word, or else how far it goes along with it.
 fn is_word(word: &[u8], line: &[u8]) -> Result<(), usize>
-    ensures { MatchResult result (λ _. Word word.now line.now) (λ p. Stops (Word word.now) line.now p) }
+    ensures { MatchResult result (λ _. Word word.now line.now) (Stops (Word word.now) line.now) }
 {
     let same = agree(word, line);
     if same == word.len() && same == line.len() {
@@ -99,26 +103,25 @@ fn is_word(word: &[u8], line: &[u8]) -> Result<(), usize>
     }
 }
 
-// The number with one more digit behind it, if the byte is a digit and the number still at most 65535.
+// The number with one more digit behind it, or 65535 where that is larger; none if the byte is no
+// digit.
 fn with_digit(value: u16, byte: u8) -> Option<u16>
-    ensures { SomeIff result ((is_ascii_digit byte ≡ true) × (value_with_digit value byte ≤ 65535)) (value_with_digit value byte) }
+    ensures { SomeIff result (digit_value byte < 10) (min (value * 10 + digit_value byte) 65535) }
 {
-    if !byte.is_ascii_digit() {
-        return None;
-    }
-    value.checked_mul(10)?.checked_add(u16::from(byte - b'0'))
+    let digit = char::from(byte).to_digit(10)?;
+    Some(value.saturating_mul(10).saturating_add(digit as u16))
 }
 
-// The decimal number that the bytes write, or the place of the first that does not fit.
+// What the digits are read as, or the place of the first byte that is none.
 fn number(bytes: &[u8]) -> Result<u16, usize>
-    ensures { MatchResult result (λ n. Decimal bytes.now n) (λ p. Stops SomeDecimal bytes.now p) }
+    ensures { MatchResult result (ReadsAs bytes.now) (Stops (IsNumeral 10) bytes.now) }
 {
+    if bytes.is_empty() {
+        return Err(0);
+    }
     let mut value = 0;
     for (at, byte) in bytes.iter().enumerate() {
         value = with_digit(value, *byte).ok_or(at)?;
-    }
-    if bytes.is_empty() {
-        return Err(0);
     }
     Ok(value)
 }

@@ -4,14 +4,20 @@ use Rattle.std.proofs.lemmas.List.{get_or-set_same, get_or-set_other}
 use Rattle.std.proofs.lemmas.Bool.{cases_eq}
 use Rattle.std.proofs.lemmas.Bool.Decides.{nat_tests}
 use Rattle.hexboard.specs.Board.{empties, other}
+use Rattle.hexboard.specs.Laying.{IsSide}
 
 -- the two that play
 abbrev pub Side : ℕ → Type 0
-Side s = (s ≡ 1) ⊎ (s ≡ 2)
+Side s = IsSide s
 
 -- r plays against s
 abbrev pub Against : ℕ → ℕ → Type 0
 Against s r = ((s ≡ 1) × (r ≡ 2)) ⊎ ((s ≡ 2) × (r ≡ 1))
+
+-- Who plays against somebody is a side.
+pub side_of : {s r : ℕ} → Against s r → Side s
+side_of (inl a) = inl a.0
+side_of (inr a) = inr a.0
 
 -- Against a side plays the other,
 pub is_other : {s r : ℕ} → Against s r → r ≡ other s

@@ -34,9 +34,11 @@ same_numbers m n e =
     let r = sym (words_joined m.values) ∙ ap words q ∙ words_joined n.values in
     λ i. record { number = p i; values = r i }
 
+pub same_answer : (a b : games.Answer) → shown a ≡ shown b → a ≡ b
+same_answer a b e = sym (tells_numbers a) ∙ ap telling (same_numbers (answer_numbers a) (answer_numbers b) e) ∙ tells_numbers b
+
 pub same_told : (a b : InBytes) → answer_bytes a ≡ answer_bytes b → told a ≡ told b
-same_told a b e =
-    sym (tells_numbers (told a)) ∙ ap telling (same_numbers (answer_numbers (told a)) (answer_numbers (told b)) e) ∙ tells_numbers (told b)
+same_told a b e = same_answer (told a) (told b) e
 
 pub same_bytes : (a b : InBytes) → told a ≡ told b → answer_bytes a ≡ answer_bytes b
 same_bytes a b e = ap shown e

@@ -105,14 +105,6 @@ pub fn count_cells(cells: &[u8]) -> Option<u16>
     u16::try_from(cells.len() / 2).ok()
 }
 
-// The k-th cell of the bytes of a way, where there is one. `k` is any number, and so this is not `hexboard::word`, whose places are
-// themselves numbers of two bytes.
-pub fn cell_at(cells: &[u8], k: usize) -> Option<u16>
-    ensures { MatchOption result (length (words cells.now) ≤ k) (λ cell. (k < length (words cells.now)) × (cell ≡ slice_index (words cells.now) k)) }
-{
-    Words::of(cells).nth(k)
-}
-
 // The answer that the bytes are, where they are one. A way is handed on as the part of the bytes that its cells are.
 pub fn read_answer(bytes: &[u8]) -> Option<Answer<&[u8]>>
     ensures { Understood bytes.now result }

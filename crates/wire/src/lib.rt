@@ -7,8 +7,6 @@ mod front;
 pub mod laws;
 mod refusal;
 
-pub use answer::{
-    Answer, Unwritten, cell_at, count_cells, read_answer, write_answer, write_way_head,
-};
+pub use answer::{Answer, Unwritten, count_cells, read_answer, write_answer, write_way_head};
 pub use call::{Call, read_call, write_call};
 pub use refusal::{NoRefusal, Refusal};

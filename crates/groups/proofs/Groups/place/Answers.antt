@@ -2,7 +2,7 @@ use Rattle.std.proofs.Common.{◌≡◌, Some, sym, refl, ◌∙◌, arith}
 use Rattle.hexboard.specs.Geometry.{laid}
 use Rattle.hexboard.specs.Sides.{number}
 use Rattle.hexboard.proofs.Given.{upto_start, upto_next, upto_end, over_none}
-use Rattle.hexboard.proofs.Pairs.{stone_read, stone_other}
+use Rattle.hexboard.proofs.Reading.{stone_read, stone_other}
 use Rattle.groups.specs.Forest.{held}
 use Rattle.groups.specs.Lent.{before}
 use Rattle.groups.proofs.Placing.{adopt_end, adopt_stone, adopt_other}
@@ -16,7 +16,7 @@ pub loop-near-preserved-then-eq : goal.loop-near-preserved-then-eq
 loop-near-preserved-then-eq c =
     let is : Some c.args.side ≡ c.stone.result = grind arith in
     let there = upto_next (adopt_end (laid c.args.size.n c.args.cells.now) _ _ _ _ _) c.in-Some.ensures.steps c.loop-near.invariant.0 in (
-      (_, there.3, adopt_stone (laid c.args.size.n c.args.cells.now) _ _ _ _ _ _ _ there.1 there.2 _ _ (stone_read c.stone.ensures.value is) c.root-top.ensures c.join.ensures.value),
+      (_, there.3, adopt_stone (laid c.args.size.n c.args.cells.now) _ _ _ _ _ _ _ there.1 there.2 _ _ (stone_read c.stone.ensures.value is) c.root-top.ensures.value c.join.ensures.value),
       c.join.ensures.behind ∙ c.loop-near.invariant.1,
     )
 

@@ -11,5 +11,5 @@ returns c =
     (ap (λ s. s.n) c.new.ensures.size) c.new.ensures.count c.new.ensures.nobody
     (c.clear.ensures.after ∙ ap all_cells long.stones)
     (c.fill.ensures.after (λ y e. e) ∙ ap (λ k. replicate k 0) long.log)
-    c.clear-2.ensures (search rules) in
+    c.clear-2.ensures.bare (search rules) in
     record { holds = held.0; new = held.1; size = c.new.ensures.size; fresh = (c.new.ensures.count, c.new.ensures.nobody) }

@@ -1,8 +1,8 @@
 use Rattle.std.proofs.Common.{ℕ, ◌+◌, ◌*◌, ◌<◌, ◌≤◌, ⊎_elim, mul-le-mul, arith}
 use Rattle.std.proofs.lemmas.Bool.Decides.{nat_tests}
 use Rattle.std.proofs.str.Laws.{order}
-use Rattle.verdict.specs.Verdicts.{bytes_of_table}
-use Rattle.session.specs.Lending.{within}
+use Rattle.endgame.specs.Verdicts.{bytes_of_table}
+use Rattle.session.specs.Sizes.{within}
 use Rattle.session.proofs.lent.memory_for.Goals as goal
 
 -- the table is within the bound, since a board of at most 9 cells is at most 3 wide

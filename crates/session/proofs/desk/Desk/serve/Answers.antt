@@ -1,7 +1,6 @@
-use Rattle.std.proofs.Common.{◌≡◌, sym, subst, arith}
+use Rattle.std.proofs.Common.{◌≡◌, ◌≤◌, sym, subst, arith}
 use Rattle.history.specs.Holds.{lent, Holds}
 use Rattle.session.specs.Desks.{memory_of}
-use Rattle.session.specs.Keeps.{Roomy}
 use Rattle.session.proofs.Keeping.{whole, desk_holds, kept_in, memory_back}
 use Rattle.session.proofs.desk.Desk.serve.Goals as goal
 use Rattle.session.proofs.desk.Desk.serve.Goals.{After-deref_mut-6, After-serve-reply}
@@ -31,7 +30,9 @@ invariant_of-self c =
     let game = c.serve-reply.result.0 in
     let kept = kept_in game _ (subst (Holds game) (left-now (goal.at.invariant_of-self c).After-serve-reply) c.serve-reply.ensures.holds) in
     record {
-      room = subst (λ z. Roomy z.n d.scratch.len d.way.len) (sym c.serve-reply.ensures.same_size) d.room;
+      within = subst (λ z. z.n ≤ d.largest.n) (sym c.serve-reply.ensures.same_size) d.within;
+      roomy = d.roomy;
+      owned = d.owned;
       fair = kept.0;
       written = kept.1.0;
       grouped = kept.1.1.0;

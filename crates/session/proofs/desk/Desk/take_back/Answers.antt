@@ -1,7 +1,6 @@
-use Rattle.std.proofs.Common.{◌≡◌, sym, subst, ◌∙◌, arith}
+use Rattle.std.proofs.Common.{◌≡◌, ◌≤◌, sym, subst, ◌∙◌, arith}
 use Rattle.history.specs.Holds.{lent, Holds}
 use Rattle.session.specs.Desks.{memory_of}
-use Rattle.session.specs.Keeps.{Roomy}
 use Rattle.session.proofs.Keeping.{whole, desk_holds, kept_in, memory_back}
 use Rattle.session.proofs.desk.Desk.take_back.Goals as goal
 use Rattle.session.proofs.desk.Desk.take_back.Goals.{After-deref_mut-4, After-take_back}
@@ -31,7 +30,7 @@ invariant_of-self c =
     let before = goal.at.invariant_of-self c in
     let same = sym (c.in_err-self.ensures.unchanged ∙ lent-now before.After-deref_mut-4) ∙ left-now before.After-take_back in
     let kept = kept_in d.game _ (subst (Holds d.game) same (desk_holds d)) in
-    record { room = d.room; fair = kept.0; written = kept.1.0; grouped = kept.1.1.0 }
+    record { within = d.within; roomy = d.roomy; owned = d.owned; fair = kept.0; written = kept.1.0; grouped = kept.1.1.0 }
 
 pub invariant_of-self-2 : goal.invariant_of-self-2
 invariant_of-self-2 c =
@@ -39,7 +38,9 @@ invariant_of-self-2 c =
     let game = c.in_ok-self.field-0 in
     let kept = kept_in game _ (subst (Holds game) (left-now (goal.at.invariant_of-self-2 c).After-take_back) c.in_ok-self.ensures.holds) in
     record {
-      room = subst (λ z. Roomy z.n d.scratch.len d.way.len) (sym c.in_ok-self.ensures.same_size) d.room;
+      within = subst (λ z. z.n ≤ d.largest.n) (sym c.in_ok-self.ensures.same_size) d.within;
+      roomy = d.roomy;
+      owned = d.owned;
       fair = kept.0;
       written = kept.1.0;
       grouped = kept.1.1.0;

@@ -1,4 +1,0 @@
-pub mod Numbering
-pub mod Gathered
-pub mod Ties
-pub mod Preparing

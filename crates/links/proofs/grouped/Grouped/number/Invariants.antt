@@ -1,8 +1,0 @@
--- A cell after the other is listed if it is empty.
-use Rattle.std.proofs.Common.{◌≡◌, take}
-use Rattle.links.specs.Cells.{free_cells}
-use Rattle.links.proofs.grouped.Grouped.number.Given as goal
-
--- the empty ones of the cells before this one are listed
-abbrev pub invariant-loop-cell : goal.invariant-loop-cell
-invariant-loop-cell l = l.cells.items ≡ free_cells (take l.cell l.self.stones.now)

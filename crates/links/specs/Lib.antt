@@ -1,4 +1,0 @@
-pub mod Cells
-pub mod Gathering
-pub mod Grouped
-pub mod Prepared

@@ -1,2 +1,0 @@
-pub mod Search
-pub mod Games
