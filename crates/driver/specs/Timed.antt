@@ -1,7 +1,6 @@
 -- Kinds of lines, how often each came, and how long serving it took. Definitions only.
-use Rattle.std.specs.Prelude.{◌≡◌, ℕ, ◌+◌, ◌-◌, ◌^◌, min, max, List, [], ◌++◌, codes, decimal, ◌==◌, slice_index_or, slice_set, ◌∷◌}
+use Rattle.std.specs.Prelude.{◌≡◌, ℕ, ◌+◌, ◌-◌, ◌^◌, min, max, List, [], ◌++◌, codes, decimal, ◌==◌, slice_index_or, slice_set, ◌∷◌, if◌then◌else◌}
 use Rattle.std.specs.List.{flat_map}
-use Rattle.hexboard.specs.Board.{pick}
 use Rattle.wire.specs.declared.call.Call.TheVariants as call
 use Rattle.text.specs.declared.reading.Line.{Line}
 use Rattle.text.specs.declared.reading.Line.TheVariants as line
@@ -61,8 +60,7 @@ noted t k nanos = record { tallies = slice_set t.tallies (place_of k) (one_more 
 -- the line of a kind, with its end: `can force: 50 calls, 1234567 ns in all, longest 99999 ns`; nothing if no such line came
 abbrev pub tally_line : List ℕ → Tally → List ℕ
 tally_line name t =
-    pick (t.count == 0) []
-    (name ++ (codes ": " ++ (decimal t.count ++ (codes " calls, " ++ (decimal t.total ++ (codes " ns in all, longest " ++ (decimal t.longest ++ codes " ns\n")))))))
+    if t.count == 0 then [] else name ++ (codes ": " ++ (decimal t.count ++ (codes " calls, " ++ (decimal t.total ++ (codes " ns in all, longest " ++ (decimal t.longest ++ codes " ns\n"))))))
 
 -- the lines of all kinds
 abbrev pub times_lines : Times → List ℕ

@@ -17,6 +17,7 @@ pub struct Answers<W> {
 }
 
 impl<W: Write> Answers<W> {
+    /// Writes to `out`, of which nothing has been written yet.
     pub fn new(out: W) -> Answers<W>
         ensures { result.out ≡ out }
     {
@@ -51,6 +52,7 @@ pub struct Positions<W> {
 }
 
 impl<W: Write> Positions<W> {
+    /// Writes to `out`, of which nothing has been written yet.
     pub fn new(out: W) -> Positions<W>
         ensures { result.out ≡ out }
     {
@@ -104,6 +106,7 @@ pub struct Refusals<W> {
 }
 
 impl<W: Write> Refusals<W> {
+    /// Writes to `out`, before the first line.
     pub fn new(out: W) -> Refusals<W>
         ensures out { result.out ≡ out }
         ensures none { result.lines ≡ 0 }

@@ -1,6 +1,5 @@
 // How the stones of a side tie the empty cells together, found from the side's groups.
-ghost use Rattle.std.specs.Prelude.{◌≡◌, ◌%◌, ◌^◌, ◌<◌, ◌==◌, length, bit_or, slice_index};
-ghost use Rattle.hexboard.specs.Board.{pick};
+ghost use Rattle.std.specs.Prelude.{◌≡◌, ◌%◌, ◌^◌, ◌<◌, ◌==◌, length, bit_or, slice_index, if◌then◌else◌};
 ghost use Rattle.hexboard.specs.Sides.{number};
 ghost use Rattle.endgame.specs.Gathering.{enter, entered_all, gathered, near_at, borders_at};
 ghost use Rattle.endgame.specs.Grouped.{board, parents};
@@ -108,7 +107,7 @@ fn read(sets: &[u64], place: u16) -> u64
 // The set with the k-th cell in it, if the lowest of the bits is set.
 fn add_if(set: u64, k: u32, bits: u8) -> u64
     requires { k < 64 }
-    ensures { result ≡ pick (bits % 2 == 1) (bit_or set (2 ^ k)) set }
+    ensures { result ≡ (if bits % 2 == 1 then bit_or set (2 ^ k) else set) }
 {
     if bits % 2 == 1 { set | one(k) } else { set }
 }

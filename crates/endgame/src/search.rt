@@ -16,7 +16,7 @@ use crate::links::Links;
 use crate::winner::Winner;
 use ranking::{Cells, Ranking, get, lowest, one, put};
 
-// The stones laid since the end began, of the side to move and of the other, and the free cells.
+/// The stones laid since the end began, of the side to move and of the other, and the free cells.
 #[derive(Clone, Copy)]
 pub struct Position {
     pub mine: u64,
@@ -39,8 +39,8 @@ impl Position {
     }
 }
 
-// Whether the side to move wins or loses; and the cells that this rests on, its carrier: even if all the other free cells go to the
-// loser, it stands. The step is the cell of a winning move, if one is known.
+/// Whether the side to move wins or loses; and the cells that this rests on, its carrier: even if all the other free cells go to the
+/// loser, it stands. The step is the cell of a winning move, if one is known.
 #[derive(Clone, Copy)]
 pub enum Found {
     Won { carrier: u64, step: Option<u32> },
@@ -61,7 +61,7 @@ fn known(table: &[u8], place: usize, free: u64) -> Option<Found>
     })
 }
 
-// The cells that must be tried, and those of the threats that show the others to be lost.
+/// The cells that must be tried, and those of the threats that show the others to be lost.
 #[derive(Clone, Copy)]
 pub struct Cut {
     pub must: u64,
@@ -129,7 +129,7 @@ pub struct Effort {
     pub looks: u64,
 }
 
-// A search through an end: what the places of its positions are reckoned from, and what was done so far.
+/// A search through an end: what the places of its positions are reckoned from, and what was done so far.
 #[derive(Drop)]
 pub struct Search {
     pub ranking: Ranking,
@@ -149,7 +149,7 @@ impl Effort {
 }
 
 impl Search {
-    // For ends with so many cells, with nothing done yet.
+    /// For ends with so many cells, with nothing done yet.
     pub fn new(cells: u32) -> Search
         requires { cells ≤ 16 }
         ensures cells { result.ranking.cells ≡ cells }
@@ -161,7 +161,7 @@ impl Search {
         }
     }
 
-    // Who wins from the beginning of the end, with all its cells free. Nothing was done before.
+    /// Who wins from the beginning of the end, with all its cells free. Nothing was done before.
     pub fn look_through(&mut self, table: &mut [u8], mine: &Links, theirs: &Links) -> Found
         requires new { self.old.effort ≡ nothing_done }
         requires room { total self.old.ranking.cells ≤ 4 * length table.old }
@@ -180,12 +180,12 @@ impl Search {
         self.solve(table, mine, theirs, start)
     }
 
-    // Who wins a position: a look at it. A cell that connects at once is taken; else, where the other threatens to connect on two cells,
-    // nothing helps, and where on one, it is stopped. A position that is not decided so is searched once: what is found goes into the table.
-    // After a move that loses only the cells of the winner's carrier are tried, since any other move would leave that win as it is.
-    //
-    // The parameters stand apart: two of them change places with every move, so a struct of them would be made anew for each. Lent so, the
-    // search took longer, 20.3 ms and not 19.9 for the ends of random-5.
+    /// Who wins a position: a look at it. A cell that connects at once is taken; else, where the other threatens to connect on two cells,
+    /// nothing helps, and where on one, it is stopped. A position that is not decided so is searched once: what is found goes into the table.
+    /// After a move that loses only the cells of the winner's carrier are tried, since any other move would leave that win as it is.
+    ///
+    /// The parameters stand apart: two of them change places with every move, so a struct of them would be made anew for each. Lent so, the
+    /// search took longer, 20.3 ms and not 19.9 for the ends of random-5.
     pub fn solve(&mut self, table: &mut [u8], mine: &Links, theirs: &Links, at: Position) -> Found
         requires node { Node self.old.ranking.cells at.mine at.theirs at.free }
         requires room { total self.old.ranking.cells ≤ 4 * length table.old }

@@ -1,6 +1,6 @@
 -- Groups of stones as a forest: each stone hangs from a later stone of its group, and the latest, the root, has the group's borders.
-use Rattle.std.specs.Prelude.{ℕ, zero, suc, List, length, Some, None, Option, ◌==◌, bit_or, slice_index, slice_index_or, slice_set}
-use Rattle.hexboard.specs.Board.{pick, Board, at}
+use Rattle.std.specs.Prelude.{ℕ, zero, suc, List, length, Some, None, Option, ◌==◌, bit_or, slice_index, slice_index_or, slice_set, if◌then◌else◌}
+use Rattle.hexboard.specs.Board.{Board, at}
 use Rattle.hexboard.specs.Geometry.{neighbour_of, touch, over}
 use Rattle.hexboard.specs.Words.{words}
 
@@ -36,7 +36,7 @@ join r x f =
 -- what lies next to x is looked at: a stone of side s brings its group to x
 abbrev pub take_in : Board → ℕ → ℕ → Option ℕ → Forest → Forest
 take_in b s x None f = f
-take_in b s x (Some y) f = pick (at b y == s) (join (root f.parents y) x f) f
+take_in b s x (Some y) f = if at b y == s then join (root f.parents y) x f else f
 
 -- the first k neighbours of x are looked at, one by one
 abbrev pub adopt : Board → ℕ → ℕ → (ℕ → Option ℕ) → ℕ → Forest → Forest
@@ -52,7 +52,7 @@ place b s x f = adopt b s x (neighbour_of b.wide x) 6 (alone x (touch b.wide s x
 
 -- the parent of cell i, which was p, once whoever hangs from x is a root again
 abbrev pub freed : ℕ → ℕ → ℕ → ℕ
-freed x i p = pick (p == x) i p
+freed x i p = if p == x then i else p
 
 -- the first k cells are looked at, and those that hang from x are roots again
 unfoldable pub free : ℕ → ℕ → List ℕ → List ℕ

@@ -1,10 +1,5 @@
 -- Boards of six-sided cells: which cells are next to each other, what a way is, and who has connected. Definitions only.
-use Rattle.std.specs.Prelude.{◌≡◌, ℕ, zero, suc, ◌+◌, ◌-◌, ◌*◌, ◌/◌, ◌%◌, Bool, true, false, ◌&&◌, ◌||◌, List, [], ◌∷◌, length, ◌==◌, nat_lt, slice_index, slice_set}
-
--- the first of two values if a test holds, else the second
-abbrev pub pick : {A : Type 0} → Bool → A → A → A
-pick true a b = a
-pick false a b = b
+use Rattle.std.specs.Prelude.{◌≡◌, ℕ, zero, suc, ◌+◌, ◌-◌, ◌*◌, ◌/◌, ◌%◌, Bool, true, false, ◌&&◌, ◌||◌, List, [], ◌∷◌, length, ◌==◌, nat_lt, slice_index, slice_set, if◌then◌else◌}
 
 -- A board n wide and n tall. Its cells are numbered by rows from 0, so that cell i lies in row i / n and column i % n.
 -- A cell holds 0 if it is empty, else the side whose stone stands on it: side 1 connects the top row and the bottom row,
@@ -39,11 +34,11 @@ next_to n i j =
 
 -- cell i is at side s's first border: the top row for side 1, the left column for side 2
 abbrev pub begins : ℕ → ℕ → ℕ → Bool
-begins n s i = pick (s == 1) (i / n == 0) (i % n == 0)
+begins n s i = if s == 1 then i / n == 0 else i % n == 0
 
 -- cell i is at side s's last border: the bottom row for side 1, the right column for side 2
 abbrev pub ends : ℕ → ℕ → ℕ → Bool
-ends n s i = pick (s == 1) (i / n + 1 == n) (i % n + 1 == n)
+ends n s i = if s == 1 then i / n + 1 == n else i % n + 1 == n
 
 -- A way of a side is a row of cells that hold its stones, each next to the one before, from its first border to its last.
 -- One cell is a way if it is at both borders.
@@ -74,7 +69,7 @@ empty n = record { wide = n; cells = all_cells (n * n) }
 -- how many of the cells are empty
 unfoldable pub empties : List ℕ → ℕ
 empties [] = 0
-empties (c ∷ cs) = pick (c == 0) 1 0 + empties cs
+empties (c ∷ cs) = (if c == 0 then 1 else 0) + empties cs
 
 -- the board with s on cell i: a stone of side s, or nothing if s is 0
 abbrev pub put : Board → ℕ → ℕ → Board

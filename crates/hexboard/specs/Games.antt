@@ -1,6 +1,6 @@
 -- Games: what a side can force, what is asked, and which answers are right. Definitions only.
-use Rattle.std.specs.Prelude.{◌≡◌, ℕ, suc, ◌-◌, ◌<◌, ◌≤◌, true, ◌&&◌, ◌≢◌, ◌⊎◌, List, [], ◌∷◌, ◌++◌, length, ◌==◌, nat_lt}
-use Rattle.hexboard.specs.Board.{pick, Board, at, is_way, Connects, empty, empties, put, other}
+use Rattle.std.specs.Prelude.{◌≡◌, ℕ, suc, ◌-◌, ◌<◌, ◌≤◌, true, ◌&&◌, ◌≢◌, ◌⊎◌, List, [], ◌∷◌, ◌++◌, length, ◌==◌, nat_lt, if◌then◌else◌}
+use Rattle.hexboard.specs.Board.{Board, at, is_way, Connects, empty, empties, put, other}
 
 -- Forces s b t: on board b, with side t to move, side s can bring it about that it connects, however the other plays.
 -- A value of it is a way to play, written out. Play goes on after the other side has connected, which changes nothing:
@@ -54,9 +54,9 @@ but_last (i ∷ (j ∷ js)) = i ∷ but_last (j ∷ js)
 -- the game after a call that is not refused
 unfoldable pub after : Game → Call → Game
 after g (moves i) =
-    pick (nat_lt i (length g.board.cells) && at g.board i == 0) (record { board = put g.board g.turn i; turn = other g.turn; moves = g.moves ++ (i ∷ []) }) g
+    if nat_lt i (length g.board.cells) && at g.board i == 0 then record { board = put g.board g.turn i; turn = other g.turn; moves = g.moves ++ (i ∷ []) } else g
 after g back =
-    pick (length g.moves == 0) g (record { board = put g.board 0 (last_of 0 g.moves); turn = other g.turn; moves = but_last g.moves })
+    if length g.moves == 0 then g else record { board = put g.board 0 (last_of 0 g.moves); turn = other g.turn; moves = but_last g.moves }
 after g who = g
 after g can_force = g
 

@@ -1,6 +1,6 @@
 -- What is promised, each promise a statement: of the desk, that all its answers are right; of boards of every size, six theorems.
-use Rattle.std.specs.Prelude.{◌≡◌, ℕ, ◌+◌, ◌*◌, ◌/◌, ◌%◌, ◌<◌, ◌≤◌, Bool, true, ◌&&◌, ◌≢◌, ◌⊎◌, List, [], ◌∷◌, length, ◌==◌, nat_lt}
-use Rattle.hexboard.specs.Board.{pick, Board, at, Connects, empty, empties, put, other}
+use Rattle.std.specs.Prelude.{◌≡◌, ℕ, ◌+◌, ◌*◌, ◌/◌, ◌%◌, ◌<◌, ◌≤◌, Bool, true, ◌&&◌, ◌≢◌, ◌⊎◌, List, [], ◌∷◌, length, ◌==◌, nat_lt, if◌then◌else◌}
+use Rattle.hexboard.specs.Board.{Board, at, Connects, empty, empties, put, other}
 use Rattle.hexboard.specs.Games.{Forces, Game, new_game, Call, can_force, Answer, too_many, Right}
 
 -- THE MAIN PROMISE. A desk is taken for what the contracts of opening and calling say of the lent memory and of the answer.
@@ -64,7 +64,7 @@ across n i = (i % n) * n + i / n
 abbrev pub Turned : Board → Board → Type 0
 Turned b c =
     (c.wide ≡ b.wide) × (length c.cells ≡ length b.cells)
-    × ((i : ℕ) → i < length b.cells → at c (across b.wide i) ≡ pick (at b i == 0) 0 (other (at b i)))
+    × ((i : ℕ) → i < length b.cells → at c (across b.wide i) ≡ (if at b i == 0 then 0 else other (at b i)))
 
 unfoldable pub TurnedOver : Type 0
 TurnedOver = (b c : Board) (s t : ℕ) → Good b → Turned b c → (s ≡ 1) ⊎ (s ≡ 2) → (t ≡ 1) ⊎ (t ≡ 2) → Forces s b t → Forces (other s) c (other t)

@@ -8,14 +8,14 @@ ghost use Rattle.hexboard.specs.Stones.{stone_at, placing, placed};
 
 use crate::side::Side;
 
-// Why a stone was not put on a cell.
+/// Why a stone was not put on a cell.
 #[derive(Clone, Copy, PartialEq, Eq, Debug)]
 pub enum Unplaced {
     NoCell,
     Taken,
 }
 
-// The side whose stone stands on a cell. A byte that is neither 1 nor 2 is no stone, and a cell that is not there has none.
+/// The side whose stone stands on a cell. A byte that is neither 1 nor 2 is no stone, and a cell that is not there has none.
 pub fn stone(cells: &[u8], cell: u16) -> Option<Side>
     ensures value { result ≡ stone_at cells.now cell }
 {
@@ -23,7 +23,7 @@ pub fn stone(cells: &[u8], cell: u16) -> Option<Side>
     Side::try_from(*byte).ok()
 }
 
-// Puts a stone on an empty cell. A cell that is not there or not empty is refused, and then nothing changes.
+/// Puts a stone on an empty cell. A cell that is not there or not empty is refused, and then nothing changes.
 pub fn place(cells: &mut [u8], side: Side, cell: u16) -> Result<(), Unplaced>
     ensures value { result ≡ placing cells.old cell }
     ensures after { cells.new ≡ placed cells.old (number side) cell }
@@ -43,7 +43,7 @@ pub fn place(cells: &mut [u8], side: Side, cell: u16) -> Result<(), Unplaced>
     }
 }
 
-// Takes off what stands on a cell, and says which stone that was.
+/// Takes off what stands on a cell, and says which stone that was.
 pub fn lift(cells: &mut [u8], cell: u16) -> Option<Side>
     ensures value { result ≡ stone_at cells.old cell }
     ensures after { cells.new ≡ slice_set cells.old cell 0 }
@@ -55,7 +55,7 @@ pub fn lift(cells: &mut [u8], cell: u16) -> Option<Side>
     Side::try_from(byte).ok()
 }
 
-// Takes all stones off.
+/// Takes all stones off.
 pub fn clear(cells: &mut [u8])
     ensures after { cells.new ≡ all_cells (length cells.old) }
     ensures board { (n : ℕ) → length cells.old ≡ n * n → laid n cells.new ≡ empty n }

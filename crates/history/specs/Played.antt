@@ -1,6 +1,6 @@
 -- Games as they are played: a list of moves, each to an empty cell, none after somebody has won; and what memory holds of them.
-use Rattle.std.specs.Prelude.{◌≡◌, ℕ, ◌-◌, ◌*◌, ◌%◌, ◌<◌, List, ◌++◌, length, take, ◌==◌, slice_index}
-use Rattle.hexboard.specs.Board.{pick, all_cells, other}
+use Rattle.std.specs.Prelude.{◌≡◌, ℕ, ◌-◌, ◌*◌, ◌%◌, ◌<◌, List, ◌++◌, length, take, ◌==◌, slice_index, if◌then◌else◌}
+use Rattle.hexboard.specs.Board.{all_cells, other}
 use Rattle.hexboard.specs.Games as games
 use Rattle.hexboard.specs.Words.{words}
 use Rattle.groups.specs.Stones.{KeepsGroups}
@@ -20,7 +20,7 @@ pub record Played (n : ℕ) (ms : List ℕ) : Type 0 where
 -- That is the side that has connected, as `winner_has_connected` promises.
 abbrev pub winner_of : ℕ → List ℕ → ℕ
 winner_of n ms =
-    pick (length ms == 0) 0 (pick (slice_index (forest_of n ms).borders (games.last_of 0 ms) % 4 == 3) (other (turn_of ms)) 0)
+    if length ms == 0 then 0 else if slice_index (forest_of n ms).borders (games.last_of 0 ms) % 4 == 3 then other (turn_of ms) else 0
 
 -- What memory holds of these moves, byte for byte: the stones, the moves themselves with zeros behind them, and the groups. The
 -- moves and the parents are numbers of two bytes, low byte first.

@@ -1,8 +1,7 @@
 // Moves made and taken back. The lent memory is a function of the list of moves, byte for byte.
 // Its four parts are passed one by one. As one struct by value, as the groups' two are, they were tried: what the functions here
 // promise can then be proved, but not what the desk promises that lends its vectors so: a proof does not know afterwards what they hold.
-ghost use Rattle.std.specs.Prelude.{◌≡◌, ◌*◌, ◌%◌, ◌==◌};
-ghost use Rattle.hexboard.specs.Board.{pick};
+ghost use Rattle.std.specs.Prelude.{◌≡◌, ◌*◌, ◌%◌, ◌==◌, if◌then◌else◌};
 ghost use Rattle.hexboard.specs.Games as games;
 ghost use Rattle.hexboard.specs.Sides.{number};
 ghost use Rattle.history.specs.Holds.{won_by, Long, lent, formal, Holds, Settled};
@@ -12,7 +11,7 @@ use groups::Groups;
 use hexboard::{Side, Size};
 use wire::Refusal;
 
-// Puts a stone of the side to move on a cell, unless there is no such cell, the game is over, or the cell is not empty.
+/// Puts a stone of the side to move on a cell, unless there is no such cell, the game is over, or the cell is not empty.
 pub fn make_move(
     game: Game,
     cell: u16,
@@ -48,7 +47,7 @@ pub fn make_move(
     })
 }
 
-// Takes the last move back, unless there is none.
+/// Takes the last move back, unless there is none.
 pub fn take_back(
     game: Game,
     stones: &mut [u8],
@@ -74,7 +73,7 @@ pub fn take_back(
     })
 }
 
-// A new game in memory that holds anything. The parts have a byte for each cell, and two where they hold numbers.
+/// A new game in memory that holds anything. The parts have a byte for each cell, and two where they hold numbers.
 pub fn start(
     size: Size,
     stones: &mut [u8],
@@ -95,7 +94,7 @@ pub fn start(
 }
 
 impl Game {
-    // A game without moves. Memory that was made ready for the size holds it.
+    /// A game without moves. Memory that was made ready for the size holds it.
     pub fn new(size: Size) -> Game
         ensures size { result.size ≡ size }
         ensures count { result.count ≡ 0 }
@@ -108,30 +107,30 @@ impl Game {
         }
     }
 
-    // How large the board is.
+    /// How large the board is.
     pub fn size(self) -> Size
         ensures { result ≡ self.size }
     {
         self.size
     }
 
-    // How many moves were made.
+    /// How many moves were made.
     pub fn count(self) -> u16
         ensures { result ≡ self.count }
     {
         self.count
     }
 
-    // Who has won.
+    /// Who has won.
     pub fn winner(self) -> Option<Side>
         ensures { result ≡ self.winner }
     {
         self.winner
     }
 
-    // The side that moves next: side 1 after an even number of moves.
+    /// The side that moves next: side 1 after an even number of moves.
     pub fn turn(self) -> Side
-        ensures { number result ≡ pick (self.count % 2 == 0) 1 2 }
+        ensures { number result ≡ (if self.count % 2 == 0 then 1 else 2) }
     {
         if self.count % 2 == 0 {
             Side::One

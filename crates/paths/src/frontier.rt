@@ -5,10 +5,10 @@ ghost use Rattle.paths.specs.Search.{Reached, parent};
 
 use hexboard::{set_word, word};
 
-// The queue has the cells reached, `count` of them, in their order. Lent bytes hold no `Option`: for each cell `from` has one more than the
-// cell from which it was reached, and 0 if it was not; a source, from which the search starts, is listed as reached from itself. That
-// there is room for each cell of the board is asked by the search, and is no ghost field: the ground would have to stand here as well,
-// lent, and each function would have to promise, instead of the room, that the ground stays.
+/// The queue has the cells reached, `count` of them, in their order. Lent bytes hold no `Option`: for each cell `from` has one more than the
+/// cell from which it was reached, and 0 if it was not; a source, from which the search starts, is listed as reached from itself. That
+/// there is room for each cell of the board is asked by the search, and is no ghost field: the ground would have to stand here as well,
+/// lent, and each function would have to promise, instead of the room, that the ground stays.
 #[derive(Drop)]
 pub struct Frontier<'a> {
     pub queue: &'a mut [u8],
@@ -19,7 +19,7 @@ pub struct Frontier<'a> {
 impl Frontier<'_> {
     ghost use Rattle.paths.specs.Grounds.{HasRoom};
 
-    // The cell at a place of the queue, where there is one.
+    /// The cell at a place of the queue, where there is one.
     pub fn listed(&self, place: u16) -> Option<u16>
         requires { self.now.count ≤ length (words self.now.queue.now) }
         ensures { MatchOption result (self.now.count ≤ place) (λ cell. (place < self.now.count) × (cell ≡ slice_index (words self.now.queue.now) place)) }
@@ -31,7 +31,7 @@ impl Frontier<'_> {
         }
     }
 
-    // The cell from which a cell was reached, if it was: a source from itself.
+    /// The cell from which a cell was reached, if it was: a source from itself.
     pub fn parent(&self, cell: u16) -> Option<u16>
         ensures reached { IsSome result ↔ Reached (words self.now.from.now) cell }
         ensures parent { IfSome result (λ before. before ≡ parent (words self.now.from.now) cell) }
@@ -39,7 +39,7 @@ impl Frontier<'_> {
         word(self.from, cell)?.checked_sub(1)
     }
 
-    // Lists a cell as reached from another, or a source as reached from itself.
+    /// Lists a cell as reached from another, or a source as reached from itself.
     pub fn enlist(&mut self, cell: u16, parent: u16)
         requires fits { parent + 1 < 2 ^ 16 }
         requires few { self.old.count + 1 < 2 ^ 16 }

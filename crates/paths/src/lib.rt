@@ -15,9 +15,9 @@ use crate::frontier::Frontier;
 use crate::ground::Ground;
 use hexboard::{Side, Size, set_word};
 
-// Finds a shortest way of a side and writes its cells to `out`, two bytes a cell, low byte first: the answer is how many there are.
-// Where the side has not connected there is none, and `out` is left as it was. `queue` and `from` are scratch, two bytes a cell each.
-// The parts come one by one, as they lie in the caller's memory; `Ground` and `Frontier` are made of them here.
+/// Finds a shortest way of a side and writes its cells to `out`, two bytes a cell, low byte first: the answer is how many there are.
+/// Where the side has not connected there is none, and `out` is left as it was. `queue` and `from` are scratch, two bytes a cell each.
+/// The parts come one by one, as they lie in the caller's memory; `Ground` and `Frontier` are made of them here.
 pub fn find_way(
     size: Size,
     side: Side,

@@ -38,7 +38,7 @@ fn sow(ground: &Ground, frontier: &mut Frontier) -> Option<u16>
     None
 }
 
-// A stone of the side at its first border, from which `from` leads to the last by a shortest way. None if the side has not connected.
+/// A stone of the side at its first border, from which `from` leads to the last by a shortest way. None if the side has not connected.
 pub fn search(ground: &Ground, frontier: &mut Frontier) -> Option<u16>
     requires { HasRoom frontier.old ground.now.size.n }
     ensures met { MatchOption result (Connects (laid ground.now.size.n ground.now.cells.now) (number ground.now.side) → ⊥) (Met (ground_of ground.now) (words frontier.new.queue.now) (words frontier.new.from.now)) }

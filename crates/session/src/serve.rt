@@ -17,8 +17,8 @@ use hexboard::Side;
 use history::Game;
 use wire::{Call, Refusal};
 
-// Serves a call. `scratch` holds anything, before and after; a way is written to the front of `way`. The parts of the memory come one by
-// one, as they go into `history`.
+/// Serves a call. `scratch` holds anything, before and after; a way is written to the front of `way`. The parts of the memory come one by
+/// one, as they go into `history`.
 pub fn serve(
     game: Game,
     call: Call,
@@ -54,7 +54,7 @@ pub fn serve(
     }
 }
 
-// Who has connected, and how: the side, and how many cells the way has that is written to the front of `way`.
+/// Who has connected, and how: the side, and how many cells the way has that is written to the front of `way`.
 pub fn who(game: Game, stones: &[u8], scratch: &mut [u8], way: &mut [u8]) -> Option<(Side, u16)>
     requires room { Room game.size.n (length scratch.old) (length way.old) }
     requires long { length stones.now ≡ game.size.n * game.size.n }

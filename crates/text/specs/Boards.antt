@@ -1,6 +1,5 @@
 -- A board and who has won, as text. Definitions only.
-use Rattle.std.specs.Prelude.{◌≡◌, ℕ, zero, suc, ◌+◌, ◌-◌, ◌*◌, ◌<◌, Bool, false, ◌||◌, List, [], ◌∷◌, ◌++◌, length, Some, None, codes, Option, ◌==◌, slice_index}
-use Rattle.hexboard.specs.Board.{pick}
+use Rattle.std.specs.Prelude.{◌≡◌, ℕ, zero, suc, ◌+◌, ◌-◌, ◌*◌, ◌<◌, Bool, false, ◌||◌, List, [], ◌∷◌, ◌++◌, length, Some, None, codes, Option, ◌==◌, slice_index, if◌then◌else◌}
 use Rattle.hexboard.specs.declared.side.Side.{Side}
 use Rattle.hexboard.specs.declared.side.Side.TheVariants.{One, Two}
 
@@ -8,8 +7,7 @@ use Rattle.hexboard.specs.declared.side.Side.TheVariants.{One, Two}
 -- on a way are marked by a letter in place of the number, `A` for side 1 and `B` for side 2.
 abbrev pub mark : ℕ → Bool → List ℕ
 mark stone marked =
-    pick (stone == 1) (pick marked (codes "A") (codes "1"))
-    (pick (stone == 2) (pick marked (codes "B") (codes "2")) (codes "."))
+    if stone == 1 then (if marked then codes "A" else codes "1") else if stone == 2 then (if marked then codes "B" else codes "2") else codes "."
 
 -- whether a cell is one of these
 abbrev pub among : List ℕ → ℕ → Bool
@@ -23,7 +21,7 @@ each (suc n) f = each n f ++ f n
 
 -- what stands before the cell in column c of its row: a space if there is a cell before it
 abbrev pub gap : ℕ → List ℕ
-gap c = pick (c == 0) [] (codes " ")
+gap c = if c == 0 then [] else codes " "
 
 -- the cell in row r and column c
 abbrev pub cell_shown : ℕ → List ℕ → List ℕ → ℕ → ℕ → List ℕ

@@ -30,10 +30,10 @@ pub fn squares_are_rhombi()
 {}
 
 /// The partners of the cells are a pairing. On the board five wide and three tall:
-//
-//     a b c c .
-//      d e e b .
-//       f f d a .
+///
+///     a b c c .
+///      d e e b .
+///       f f d a .
 pub fn partners_pair_off()
     ensures theorem { PartnersPairOff }
     ensures drawn { map (partner 5 3)

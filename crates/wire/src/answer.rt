@@ -15,8 +15,8 @@ use crate::refusal::Refusal;
 use hexboard::{Side, Words};
 use std::fmt;
 
-// `W` is how the cells of a way are held. Where an answer is bytes, or is made of them, they are `&[u8]`, two bytes a cell, low byte
-// first: a part of the bytes that the answer is written into or read from.
+/// `W` is how the cells of a way are held. Where an answer is bytes, or is made of them, they are `&[u8]`, two bytes a cell, low byte
+/// first: a part of the bytes that the answer is written into or read from.
 #[derive(Clone, Copy, PartialEq, Eq, Debug)]
 pub enum Answer<W> {
     Refused(Refusal),
@@ -29,7 +29,7 @@ pub enum Answer<W> {
     TooMany,
 }
 
-// Why an answer could not be written.
+/// Why an answer could not be written.
 #[derive(Clone, Copy, PartialEq, Eq, Debug)]
 pub enum Unwritten {
     // There is no room for it.
@@ -39,7 +39,7 @@ pub enum Unwritten {
     NotCells,
 }
 
-// The answer's bytes at the front, and how many they are.
+/// The answer's bytes at the front, and how many they are.
 pub fn write_answer(answer: Answer<&[u8]>, out: &mut [u8]) -> Result<usize, Unwritten>
     ensures { Wrote answer.entry out.old out.new result }
 {
@@ -85,7 +85,7 @@ fn write_way(side: Side, cells: &[u8], out: &mut [u8]) -> Result<usize, Unwritte
     Ok(size)
 }
 
-// What comes before the cells of a way, written in front of cells that stand there already.
+/// What comes before the cells of a way, written in front of cells that stand there already.
 pub fn write_way_head(side: Side, count: u16, out: &mut [u8]) -> Option<usize>
     ensures head { Written (way_head side count) out.old out.new result }
     ensures whole { OnSome result (Headed side count out.new) }
@@ -95,7 +95,7 @@ pub fn write_way_head(side: Side, count: u16, out: &mut [u8]) -> Option<usize>
     put(&[2, a, b, c, d], out)
 }
 
-// How many cells the bytes of a way are, if they are cells.
+/// How many cells the bytes of a way are, if they are cells.
 pub fn count_cells(cells: &[u8]) -> Option<u16>
     ensures { MatchOption result ((Row cells.now → ⊥)) (λ n. Row cells.now × (n ≡ length (words cells.now))) }
 {
@@ -105,7 +105,7 @@ pub fn count_cells(cells: &[u8]) -> Option<u16>
     u16::try_from(cells.len() / 2).ok()
 }
 
-// The answer that the bytes are, where they are one. A way is handed on as the part of the bytes that its cells are.
+/// The answer that the bytes are, where they are one. A way is handed on as the part of the bytes that its cells are.
 pub fn read_answer(bytes: &[u8]) -> Option<Answer<&[u8]>>
     ensures { Understood bytes.now result }
 {
