@@ -1,5 +1,5 @@
 -- Input as lines. Definitions only.
-use Rattle.std.specs.Prelude.{◌≡◌, ◌≢◌, ℕ, ◌-◌, ◌+◌, ◌<◌, ◌≤◌, ◌^◌, ◌⊎◌, IsTrue, Bool, IfSome, List, [], ◌∷◌, ◌++◌, length, take, Option, Some, None, true, false, map, ⊤, All, nat_lt, ◌==◌, if◌then◌else◌}
+use Rattle.std.specs.Prelude.{◌≡◌, ◌≢◌, ℕ, ◌-◌, ◌+◌, ◌<◌, ◌≤◌, ◌^◌, ◌⊎◌, IsTrue, Bool, IfSome, List, [], ◌∷◌, ◌++◌, length, take, Option, Some, None, true, false, map, ⊤, All, ◌==◌, if◌then◌else◌}
 use Rattle.std.specs.Io.BufRead.{strip_last}
 use Rattle.std.specs.Io.KnownBytes.{Consumes}
 use Rattle.arrayvec.specs.ArrayVec.{ArrayVec}

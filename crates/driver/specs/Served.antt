@@ -1,11 +1,9 @@
 -- What a line is read as, what it is answered by, and the game afterwards. Definitions only.
-use Rattle.std.specs.Prelude.{◌≡◌, ℕ, ◌<◌, ◌≤◌, List, ◌++◌, length, take, Some, None, Ok, Err, Option, Result}
+use Rattle.std.specs.Prelude.{ℕ, ◌<◌, ◌≤◌, List, length, take, Some, None, Ok, Err, Option, Result}
 use Rattle.hexboard.specs.Board.{empties}
 use Rattle.hexboard.specs.Games as games
 use Rattle.wire.specs.Answers.{line_of}
-use Rattle.wire.specs.Formal as formal
 use Rattle.wire.specs.Formal.{asked}
-use Rattle.wire.specs.Numbers.{InBytes}
 use Rattle.wire.specs.declared.call.Call.{Call}
 use Rattle.wire.specs.declared.call.Call.TheVariants.{Move, Back, Who, CanForce}
 use Rattle.session.specs.Short.{Short}

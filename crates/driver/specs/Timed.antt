@@ -1,5 +1,5 @@
 -- Kinds of lines, how often each came, and how long serving it took. Definitions only.
-use Rattle.std.specs.Prelude.{◌≡◌, ℕ, ◌+◌, ◌-◌, ◌^◌, min, max, List, [], ◌++◌, codes, decimal, ◌==◌, slice_index_or, slice_set, ◌∷◌, if◌then◌else◌}
+use Rattle.std.specs.Prelude.{ℕ, ◌+◌, ◌-◌, ◌^◌, min, max, List, [], ◌++◌, codes, decimal, ◌==◌, slice_index_or, slice_set, ◌∷◌, if◌then◌else◌}
 use Rattle.std.specs.List.{flat_map}
 use Rattle.wire.specs.declared.call.Call.TheVariants as call
 use Rattle.text.specs.declared.reading.Line.{Line}

@@ -19,8 +19,7 @@ pub trait Listener {
     /// A line has come, and is served next.
     fn begin(&mut self)
         ensures { (all : List Exchange) → heard self.old all → heard self.new all }
-    {
-    }
+    {}
 
     /// Hears what became of a line, with the table after it, which stays as it is but for the way that it shows.
     fn hear(&mut self, served: Served<u16>, table: &mut Table) -> io::Result<()>

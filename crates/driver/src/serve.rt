@@ -23,9 +23,9 @@ pub fn serve_lines<R: Input, L: Listener>(
 ) -> io::Result<()>
     ensures served { MatchResult result
         (λ _. ServedAll (limits_of table.old) (R.remaining input.old)
-            (game_on table.old) (game_on table.new) (L.heard listener.old) (L.heard listener.new))
+        (game_on table.old) (game_on table.new) (L.heard listener.old) (L.heard listener.new))
         (λ _. CutOff L.heard L.fails (limits_of table.old) R.can_break (R.remaining input.old)
-            (game_on table.old) listener.old (game_on table.new) listener.new) }
+        (game_on table.old) listener.old (game_on table.new) listener.new) }
     ensures limits { limits_of table.new ≡ limits_of table.old }
 {
     let mut line = LineBuffer::new();
