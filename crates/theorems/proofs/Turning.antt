@@ -1,7 +1,7 @@
 -- Rows and columns exchanged: a board w wide and t tall, turned over, is one t wide and w tall with the sides exchanged.
 use Rattle.std.proofs.Common.{◌≡◌, ℕ, ◌+◌, ◌*◌, ◌/◌, ◌%◌, ◌<◌, true, List, length, sym, ap, ◌∙◌, arith}
 use mathlib.Core.Logic.{⊎_map}
-use Rattle.std.proofs.lemmas.Nat.{div_below, mod_below, mul-add-lt, div-mul-add, mod-mul-add, div-add-mod'}
+use Rattle.std.proofs.lemmas.Nat.{mul-add-lt, div-mul-add, mod-mul-add, div-add-mod'}
 use Rattle.std.proofs.lemmas.Bool.Decides.{nat_tests}
 use Rattle.hexboard.specs.Board as board
 use Rattle.hexboard.specs.Board.{other}

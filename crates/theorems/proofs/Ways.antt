@@ -3,7 +3,7 @@ use Rattle.std.proofs.Common.{◌≡◌, ℕ, ◌+◌, ◌/◌, ◌%◌, Bool, t
 use Rattle.hexboard.specs.Board.{pick, Board, next_to, begins, ends, goes_on, is_way, Connects}
 use Rattle.hexboard.specs.Shapes.{leads_on, leads, starts, finishes}
 use Rattle.hexboard.specs.Rows.{Stone}
-use Rattle.theorems.proofs.Leading.{Track, Leads, LeadsOn, IsLed, on_parts, on_from, row_parts, row_from}
+use Rattle.theorems.proofs.Leading.{Track, Leads, IsLed, on_parts, on_from, row_parts, row_from}
 use Rattle.theorems.proofs.RhombusWays.{board_track, stone_parts, stone_from}
 
 -- Two ways to choose are one.
