@@ -11,7 +11,7 @@ use Rattle.hexboard.specs.Shapes.{next_to, is_way, shape_rules, cell_in, step_fr
 use Rattle.theorems.specs.Rhombi.{SquaresAreRhombi}
 use Rattle.theorems.proofs.Leading.{Leads, carried_row}
 use Rattle.theorems.proofs.RhombusWays.{board_track, next_beside, beside_next, shape_carries, board_carries, by_places, from_places}
-use Rattle.theorems.proofs.BoardWays.{way_leads, leads_way, of_board, to_board}
+use Rattle.theorems.proofs.Ways.{way_leads, leads_way, of_board, to_board}
 use Rattle.theorems.proofs.Squares.{to_game, of_game}
 
 -- Two tests that are true together are the same.

@@ -1,8 +1,8 @@
-// The theorems for boards of every size, each on the contract of a function: the statement, and what
-// follows from it for somebody who plays. The functions have nothing to do; that they are proved is
-// what they are for. `laying` has the laws of forcing for any game of laying stones, `pairs` those of
-// answering in pairs, `rhombi` what holds of boards that need not be square, and `worked` games on a
-// small board, answer by answer.
+// The theorems for boards of every size, each on the contract of a function: the statement, and
+// what follows from it for somebody who plays. The functions have nothing to do; that they are
+// proved is what they are for. `laying` has the laws of forcing for any game of laying stones,
+// `pairs` those of answering in pairs, `rhombi` what holds of boards that need not be square, and
+// `worked` games on a small board, answer by answer.
 #![tactic(auto)]
 
 mod laying;
