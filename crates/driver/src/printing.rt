@@ -1,7 +1,8 @@
 // Listeners that write what they hear.
 ghost use Rattle.std.specs.Prelude.{◌≡◌, ℕ, List, OnOk, IsSomeAnd, length, ⊤};
 ghost use Rattle.std.specs.Io.KnownBytes.{Appends};
-ghost use Rattle.driver.specs.Printed.{Written, PrintsAnswer, ShowsPosition, PrintsPosition, PrintsRefusal, counted};
+ghost use Rattle.driver.specs.Printed.{Written, PrintsAnswer, ShowsPosition, PrintsPosition};
+ghost use Rattle.driver.specs.Printed.{PrintsRefusal, counted};
 ghost use Rattle.driver.specs.Tables.{game_on, limits_of, exchange_at};
 
 use crate::listener::Listener;
@@ -123,7 +124,8 @@ impl<W: Write> Refusals<W> {
 }
 
 impl<W: Write> Listener for Refusals<W> {
-    ghost heard = { λ s all. (s.lines ≡ counted (length all)) × IsSomeAnd (W.contents s.out) (Written PrintsRefusal 1 all) };
+    ghost heard = { λ s all. (s.lines ≡ counted (length all))
+        × IsSomeAnd (W.contents s.out) (Written PrintsRefusal 1 all) };
 
     ghost fails = { λ _ _. ⊤ };
 

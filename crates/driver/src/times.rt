@@ -1,7 +1,8 @@
 // How often each kind of line came, and how long serving it took.
 ghost use Rattle.std.specs.Prelude.{◌≡◌, ℕ, ◌-◌, ◌^◌, min, List, ◌++◌, Some, string_bytes, OnOk};
 ghost use Rattle.std.specs.Duration.{as_nanos};
-ghost use Rattle.driver.specs.Timed.{no_lines, kind_of_line, name_of, capped, one_more, tally_of, noted, tally_line, times_lines};
+ghost use Rattle.driver.specs.Timed.{no_lines, kind_of_line, name_of, capped, one_more, tally_of};
+ghost use Rattle.driver.specs.Timed.{noted, tally_line, times_lines};
 
 use std::fmt;
 use std::time::Duration;
@@ -57,7 +58,8 @@ impl fmt::Display for Kind {
     }
 }
 
-/// How many lines of a kind came, the nanoseconds that they took in all, and those of the one that took longest.
+/// How many lines of a kind came, the nanoseconds that they took in all, and those of the one that
+/// took longest.
 #[derive(Clone, Copy)]
 pub struct Tally {
     count: u64,

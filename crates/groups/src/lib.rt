@@ -26,9 +26,8 @@ pub struct Groups<'a> {
 }
 
 impl Groups<'_> {
-    /// Makes the memory that of a board without stones.
-    /// Cell by cell, as in `lift`: a parent is a number of two bytes, which `set_word` writes by its
-    /// place.
+    /// Makes the memory that of a board without stones. Cell by cell, as in `lift`: a parent is a
+    /// number of two bytes, which `set_word` writes by its place.
     pub fn clear(self, size: Size)
         requires parents_long { length self.parents.now ≡ size.n * size.n * 2 }
         requires borders_long { length self.borders.now ≡ size.n * size.n }

@@ -1,4 +1,5 @@
-// What holds of every list of moves, each law as the contract of a function. There is nothing to run.
+// What holds of every list of moves, each law as the contract of a function. There is nothing to
+// run.
 ghost use Rattle.history.specs.Laws.{MovesTell, BackToTheByte, WinnerConnects, NobodyConnects};
 
 /// The moves tell every byte of the memory.

@@ -3,8 +3,9 @@ ghost use Rattle.std.specs.Prelude.{◌≡◌, ◌*◌, ◌&&◌, length};
 
 use hexboard::{Side, Size};
 
-/// There is a byte for each cell of the board. Size and cells are fields here, as size and stones are of `Grouped` in `endgame`, beside what
-/// is known of groups: a struct of the two would only stand between.
+/// There is a byte for each cell of the board. Size and cells are fields here, as size and stones
+/// are of `Grouped` in `endgame`, beside what is known of groups: a struct of the two would only
+/// stand between.
 #[derive(Clone, Copy)]
 pub struct Ground<'a> {
     pub size: Size,

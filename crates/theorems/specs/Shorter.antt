@@ -17,10 +17,10 @@ pub record Place : Type 0 where
 abbrev pub flip : Place → Place
 flip p = record { row = p.column; column = p.row }
 
--- The partner of a place on a board t tall and wider than tall. The cells with row + column below t are
--- a triangle at the upper left; the others, up to column t, are one at the lower right. Each cell of
--- the one has its partner in the other: the top row in column t, and the left column in the bottom
--- row. Columns past t are in no pair. Three tall, with a letter for each pair:
+-- The partner of a place on a board t tall and wider than tall. The cells with row + column below t
+-- are a triangle at the upper left; the others, up to column t, are one at the lower right. Each
+-- cell of the one has its partner in the other: the top row in column t, and the left column in the
+-- bottom row. Columns past t are in no pair. Three tall, with a letter for each pair:
 --
 --     a b c c .
 --      d e e b .

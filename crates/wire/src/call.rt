@@ -19,8 +19,8 @@ pub enum Call {
     CanForce,
 }
 
-/// The call that the bytes are, or the first byte that does not fit. Each byte is asked for by a `let .. else` of its own, which says
-/// at which place it is missing or too many.
+/// The call that the bytes are, or the first byte that does not fit. Each byte is asked for by a
+/// `let .. else` of its own, which says at which place it is missing or too many.
 pub fn read_call(bytes: &[u8]) -> Result<Call, Refusal>
     ensures value { result ≡ read bytes.now }
     ensures law { Reads bytes.now result }

@@ -1,5 +1,7 @@
-// Laws of calls, answers and their bytes: each is the contract of a function, and holds since that is proved.
-ghost use Rattle.wire.specs.Laws.{CallComesBack, OneCall, AnswerComesBack, OneAnswer, RoomEnough, CellsComeBack};
+// Laws of calls, answers and their bytes: each is the contract of a function, and holds since that
+// is proved.
+ghost use Rattle.wire.specs.Laws.{CallComesBack, OneCall, AnswerComesBack, OneAnswer, RoomEnough};
+ghost use Rattle.wire.specs.Laws.{CellsComeBack};
 
 /// A call that is written is read again.
 pub fn call_comes_back()
