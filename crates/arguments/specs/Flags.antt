@@ -1,5 +1,6 @@
 -- The arguments that programs know, and what a row of them asks for. Definitions only.
-use Rattle.std.specs.Prelude.{◌≡◌, ◌≢◌, ℕ, ◌<◌, List, [], length, codes, slice_index_or, true, Contains, IsTrue, ◌↔◌}
+use Rattle.std.specs.Prelude.{◌≡◌, ◌≢◌, ℕ, ◌<◌, List, [], length, codes, slice_index_or, true}
+use Rattle.std.specs.Prelude.{Contains, IsTrue, ◌↔◌}
 use Rattle.arguments.specs.declared.flags.Flag.{Flag}
 use Rattle.arguments.specs.declared.flags.Flag.TheVariants.{Help, Show, Times}
 use Rattle.arguments.specs.declared.flags.Asked.{Asked}
@@ -42,7 +43,8 @@ Among arguments k f = (i : ℕ) × (i < k) × (argument_at arguments i ≡ writt
 
 -- --help is one of the arguments, and the program takes each before it
 abbrev pub AsksForHelp : List Flag → List (List ℕ) → Type 0
-AsksForHelp taken arguments = (k : ℕ) × (k < length arguments) × TakesFirst taken arguments k × (argument_at arguments k ≡ written Help)
+AsksForHelp taken arguments = (k : ℕ) × (k < length arguments) × TakesFirst taken arguments k
+    × (argument_at arguments k ≡ written Help)
 
 -- the program takes each of the arguments, and these are among them
 abbrev pub AsksFor : List Flag → List (List ℕ) → Asked → Type 0
@@ -54,4 +56,5 @@ AsksFor taken arguments asked =
 -- the program takes each of the arguments before this one, and not this
 abbrev pub FirstUntaken : List Flag → List (List ℕ) → List ℕ → Type 0
 FirstUntaken taken arguments found =
-    (k : ℕ) × (k < length arguments) × TakesFirst taken arguments k × (argument_at arguments k ≡ found) × Untaken taken found
+    (k : ℕ) × (k < length arguments) × TakesFirst taken arguments k
+    × (argument_at arguments k ≡ found) × Untaken taken found

@@ -7,7 +7,8 @@ use Rattle.arguments.specs.declared.help.TheConstants.{LINES}
 -- `Limits: boards from 1 by 1 to 7 by 7; can force with at most 10 empty cells.`
 abbrev pub limits_line : ℕ → ℕ → List ℕ
 limits_line largest ends =
-    codes "Limits: boards from 1 by 1 to " ++ (decimal largest ++ (codes " by " ++ (decimal largest ++
+    codes "Limits: boards from 1 by 1 to "
+    ++ (decimal largest ++ (codes " by " ++ (decimal largest ++
     (codes "; can force with at most " ++ (decimal ends ++ codes " empty cells.\n")))))
 
 -- what it tells of itself, the lines that every program reads, and how far it goes

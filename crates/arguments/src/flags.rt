@@ -1,6 +1,7 @@
 // What the arguments of a program ask for.
 ghost use Rattle.std.specs.Prelude.{◌≡◌, MatchOption, MatchResult, ◌≢◌, map, string_bytes};
-ghost use Rattle.arguments.specs.Flags.{written, with_flag, TakenAs, Untaken, AsksForHelp, AsksFor, FirstUntaken};
+ghost use Rattle.arguments.specs.Flags.{written, with_flag, TakenAs, Untaken, AsksForHelp, AsksFor};
+ghost use Rattle.arguments.specs.Flags.{FirstUntaken};
 
 /// An argument.
 #[derive(Clone, Copy, PartialEq, Eq)]
@@ -35,7 +36,8 @@ impl Asked {
 
 // The flag that an argument is, if it is one.
 fn read_flag(argument: &str) -> Option<Flag>
-    ensures { MatchOption result ((f : Flag) → argument.now ≢ written f) (λ f. argument.now ≡ written f) }
+    ensures { MatchOption result ((f : Flag) → argument.now ≢ written f)
+        (λ f. argument.now ≡ written f) }
 {
     match argument {
         "--help" => Some(Flag::Help),
@@ -55,8 +57,8 @@ fn taken_flag(argument: &str, taken: &[Flag]) -> Option<Flag>
     }
 }
 
-/// What the arguments ask for, if each is --help or one of the flags that the program takes: none at
-/// the first --help, whatever comes behind it. Else the first that is not.
+/// What the arguments ask for, if each is --help or one of the flags that the program takes: none
+/// at the first --help, whatever comes behind it. Else the first that is not.
 pub fn read_arguments<'a>(
     arguments: &'a [String],
     taken: &[Flag],

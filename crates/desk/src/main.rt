@@ -1,4 +1,5 @@
-// Answers calls as they come, on boards of every size that a desk has: for a person at a terminal or for a file.
+// Answers calls as they come, on boards of every size that a desk has: for a person at a terminal
+// or for a file.
 #![tactic(auto)]
 
 use arguments::Flag;

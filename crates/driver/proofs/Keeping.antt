@@ -1,9 +1,9 @@
 -- The beginning of a line, as far as there is room, and lines in the bytes of an input.
-use Rattle.std.proofs.Common.{◌≡◌, ◌^◌, IsTrue, OnSome, map, ◌≢◌, ℕ, zero, suc, ◌+◌, ◌-◌, ◌*◌, ◌<◌, ◌≤◌, ◌⊎◌, inl, inr, ⊎_elim, min, Bool, true, false, not, Some, None, IfSome, Option, List, [], ◌∷◌, ◌++◌, All, length, take, get_or, position, ◌==◌, cond, eqb, ne_eqb, true≢false, nat_lt, slice_index, refl, sym, ap, subst, ◌∙◌, append-nil, length-append, append_assoc, arith}
+use Rattle.std.proofs.Common.{◌≡◌, ◌^◌, IsTrue, OnSome, map, ◌≢◌, ℕ, zero, suc, ◌+◌, ◌-◌, ◌<◌, ◌≤◌, ◌⊎◌, inl, inr, ⊎_elim, min, Bool, true, false, not, Some, None, IfSome, Option, List, [], ◌∷◌, ◌++◌, All, length, take, position, ◌==◌, cond, ne_eqb, true≢false, refl, sym, ap, subst, ◌∙◌, append-nil, length-append, append_assoc, arith}
 use Rattle.std.proofs.Math.Nat.{sub-zero, zero-sub, suc-sub-suc}
-use Rattle.std.specs.List.{prefix_len, position_or_len}
+use Rattle.std.specs.List.{position_or_len}
 use Rattle.std.specs.Io.KnownBytes.{Consumes, IsAtEnd}
-use Rattle.std.proofs.lemmas.List.{take_min, length-take, take_more, get_or-take, take_all, take-take, take-append-le}
+use Rattle.std.proofs.lemmas.List.{take_min, length-take, take_more, get_or-take, take_all, take-take}
 use Rattle.std.proofs.lemmas.List.Elements.{All-nil, All-head, All-tail, All-append}
 use Rattle.std.proofs.lemmas.List.Quantifiers.{position-Some}
 use Rattle.std.proofs.lemmas.List.Sums.{prefix_len_passes}
@@ -142,7 +142,7 @@ line_read can_break before mid after old new kept turns LineEnd e s t trims =
     let whole = Consumes-trans before mid after s.all (t.part ++ 10 ∷ []) s.consumed t.consumed in (
       trimmed line,
       loses before after line (10 ∷ []) (subst (Consumes before after) (sym (append_assoc s.all t.part (10 ∷ []))) whole)
-        (λ rest. pieces-fed line rest (All-append (λ b. b ≢ 10) s.all t.part s.no_feed t.no_feed)),
+          (λ rest. pieces-fed line rest (All-append (λ b. b ≢ 10) s.all t.part s.no_feed t.no_feed)),
       trims line (t.kept s.all s.kept_is),
     )
 

@@ -1,14 +1,10 @@
 -- Who has won, and the board drawn with a way marked.
-use Rattle.std.proofs.Common.{◌≡◌, ℕ, ◌<◌, Bool, true, false, not, List, is_some, Some, None, Decides, Option, MatchOption, refl, subst, arith}
+use Rattle.std.proofs.Common.{◌≡◌, ℕ, Bool, true, false, not, is_some, Some, None, Decides, Option, refl, arith}
 use Rattle.hexboard.proofs.Boards.{side_number}
 use Rattle.hexboard.specs.Games as games
 use Rattle.hexboard.specs.Sides.{number}
 use Rattle.hexboard.specs.declared.side.Side.{Side}
-use Rattle.wire.specs.Formal.{shown_by}
 use Rattle.session.specs.Desks.{Outcome}
-use Rattle.session.specs.Short.{Short}
-
-
 
 -- nobody is told as the winner just if nobody has won
 pub open_if_nobody : (g : games.Game) (winner : Option Side) (r : Bool) → is_some winner ≡ not r → Outcome g winner → Decides r (games.Won g → ⊥)

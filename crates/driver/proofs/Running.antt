@@ -1,8 +1,8 @@
 -- Lines and exchanges: one more behind those there are.
-use Rattle.std.proofs.Common.{◌≡◌, ℕ, ◌+◌, ◌-◌, ◌^◌, List, [], ◌∷◌, ◌++◌, length, Bool, Some, None, IfSome, Option, Result, Ok, Err, IsErr, MatchResult, map, refl, sym, ap, subst, ◌∙◌, append-nil, append_assoc, length-append, arith}
+use Rattle.std.proofs.Common.{◌≡◌, ℕ, ◌+◌, ◌-◌, ◌^◌, List, [], ◌∷◌, ◌++◌, length, Bool, Some, None, IfSome, Option, Result, Ok, Err, IsErr, MatchResult, refl, sym, ap, subst, ◌∙◌, append-nil, append_assoc, length-append, arith}
 use Rattle.std.proofs.lemmas.Bool.{false≢true}
 use Rattle.hexboard.specs.Games as games
-use Rattle.driver.specs.Lines.{lines_of, pieces, trimmed, LosesLine, Ends, CanFail}
+use Rattle.driver.specs.Lines.{lines_of, LosesLine, Ends, CanFail}
 use Rattle.driver.specs.Served.{IsRead, Serves}
 use Rattle.driver.specs.Exchanged.{Exchange, Exchanges, none, one, LosesLines, Hears, ServedAll, CutOff}
 use Rattle.driver.specs.declared.limits.Limits.{Limits}

@@ -1,5 +1,5 @@
 -- What is written for one exchange more.
-use Rattle.std.proofs.Common.{◌≡◌, ℕ, ◌+◌, ◌-◌, ◌^◌, min, List, [], ◌∷◌, ◌++◌, length, Bool, true, false, IfSome, IsSomeAnd, OnOk, Ok, Err, Some, None, Option, Result, codes, decimal, refl, sym, ap, subst, ◌∙◌, append-nil, append_assoc, add-zero, length-append, arith}
+use Rattle.std.proofs.Common.{◌≡◌, ℕ, ◌+◌, ◌-◌, ◌^◌, min, List, [], ◌∷◌, ◌++◌, length, IfSome, IsSomeAnd, OnOk, Ok, Err, Some, None, Option, Result, codes, decimal, refl, sym, ap, subst, ◌∙◌, append-nil, append_assoc, add-zero, length-append, arith}
 use Rattle.std.specs.Io.KnownBytes.{Appends, Keeps}
 use Rattle.hexboard.specs.Games as games
 use Rattle.driver.specs.Drawn.{IsShortestWay, Draws}
@@ -97,6 +97,6 @@ answers_all limits limits' input g h old new out all same closed empty is =
       all.exchanges,
       h,
       subst (λ l. Exchanges l None (lines_of input) all.exchanges h) same
-        (subst (λ k. Exchanges limits' k (lines_of input) all.exchanges h) closed (subst (λ ls. Exchanges limits' g ls all.exchanges h) all.all all.served)),
+          (subst (λ k. Exchanges limits' k (lines_of input) all.exchanges h) closed (subst (λ ls. Exchanges limits' g ls all.exchanges h) all.all all.served)),
       subst (λ o. IsSomeAnd o (Written PrintsAnswer 1 all.exchanges)) is (all.heard [] nothing),
     )

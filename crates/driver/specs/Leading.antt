@@ -1,5 +1,5 @@
 -- Which lines are refused, and which lead to another position. Definitions only.
-use Rattle.std.specs.Prelude.{◌≡◌, ℕ, Ok, Err, Result, ⊤}
+use Rattle.std.specs.Prelude.{ℕ, Ok, Err, Result, ⊤}
 use Rattle.hexboard.specs.Games as games
 use Rattle.wire.specs.declared.call.Call.TheVariants as call
 use Rattle.text.specs.declared.reading.Line.{Line}

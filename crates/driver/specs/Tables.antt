@@ -1,9 +1,8 @@
--- The game that is open at a table, and what a value that tells a reply stands for. Definitions only.
-use Rattle.std.specs.Prelude.{◌≡◌, ℕ, ◌*◌, List, take, Some, None, Ok, Err, vec_items, Option, if◌then◌else◌}
+-- The game that is open at a table, and what a value that tells a reply stands for. Definitions
+-- only.
+use Rattle.std.specs.Prelude.{ℕ, List, Some, None, vec_items, Option, if◌then◌else◌}
 use Rattle.hexboard.specs.Games as games
-use Rattle.hexboard.specs.Words.{words}
 use Rattle.wire.specs.Formal as formal
-use Rattle.wire.specs.Numbers.{InBytes}
 use Rattle.session.specs.Desks.{desk_game}
 use Rattle.session.specs.Replies.{replied}
 use Rattle.driver.specs.Served.{Reply, opened, answer}
@@ -39,4 +38,8 @@ reply_of (told.Answer a) = answer (formal.told a)
 
 -- what became of a line, with the table after it
 abbrev pub exchange_at : Table → Served ℕ → Exchange
-exchange_at t served = record { asked = served.asked; reply = reply_in (way_of t) served.told; game = game_on t }
+exchange_at t served = record {
+  asked = served.asked;
+  reply = reply_in (way_of t) served.told;
+  game = game_on t;
+}

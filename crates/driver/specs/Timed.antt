@@ -1,7 +1,7 @@
 -- Kinds of lines, how often each came, and how long serving it took. Definitions only.
-use Rattle.std.specs.Prelude.{◌≡◌, ℕ, ◌+◌, ◌-◌, ◌^◌, min, max, List, [], ◌++◌, codes, decimal, ◌==◌, slice_index_or, slice_set, ◌∷◌}
+use Rattle.std.specs.Prelude.{ℕ, ◌+◌, ◌-◌, ◌^◌, min, max, List, [], ◌++◌, codes, decimal, ◌==◌}
+use Rattle.std.specs.Prelude.{slice_index_or, slice_set, ◌∷◌, if◌then◌else◌}
 use Rattle.std.specs.List.{flat_map}
-use Rattle.hexboard.specs.Board.{pick}
 use Rattle.wire.specs.declared.call.Call.TheVariants as call
 use Rattle.text.specs.declared.reading.Line.{Line}
 use Rattle.text.specs.declared.reading.Line.TheVariants as line
@@ -44,7 +44,11 @@ capped n = min n (2 ^ 64 - 1)
 
 -- one line more, which took so many nanoseconds
 abbrev pub one_more : Tally → ℕ → Tally
-one_more t nanos = record { count = capped (t.count + 1); total = capped (t.total + nanos); longest = max t.longest nanos }
+one_more t nanos = record {
+  count = capped (t.count + 1);
+  total = capped (t.total + nanos);
+  longest = max t.longest nanos;
+}
 
 -- the tally of a kind of which no line came
 abbrev pub no_lines : Tally
@@ -56,13 +60,19 @@ tally_of t k = slice_index_or t.tallies (place_of k) no_lines
 
 -- one line more of a kind
 abbrev pub noted : Times → Kind → ℕ → Times
-noted t k nanos = record { tallies = slice_set t.tallies (place_of k) (one_more (tally_of t k) nanos) }
+noted t k nanos = record {
+  tallies =
+      slice_set t.tallies (place_of k) (one_more (tally_of t k) nanos);
+}
 
--- the line of a kind, with its end: `can force: 50 calls, 1234567 ns in all, longest 99999 ns`; nothing if no such line came
+-- the line of a kind, with its end: `can force: 50 calls, 1234567 ns in all, longest 99999 ns`;
+-- nothing if no such line came
 abbrev pub tally_line : List ℕ → Tally → List ℕ
 tally_line name t =
-    pick (t.count == 0) []
-    (name ++ (codes ": " ++ (decimal t.count ++ (codes " calls, " ++ (decimal t.total ++ (codes " ns in all, longest " ++ (decimal t.longest ++ codes " ns\n")))))))
+    if t.count == 0 then [] else name ++ (codes ": "
+    ++ (decimal t.count ++ (codes " calls, "
+    ++ (decimal t.total ++ (codes " ns in all, longest "
+    ++ (decimal t.longest ++ codes " ns\n"))))))
 
 -- the lines of all kinds
 abbrev pub times_lines : Times → List ℕ

@@ -1,5 +1,6 @@
 // Where bytes come from.
-ghost use Rattle.std.specs.Prelude.{◌≡◌, ℕ, List, Bool, true, false, IfSome, IfOk, OnErr, IsTrue, length, [], Some};
+ghost use Rattle.std.specs.Prelude.{◌≡◌, ℕ, List, Bool, true, false, IfSome, IfOk, OnErr, IsTrue};
+ghost use Rattle.std.specs.Prelude.{length, [], Some};
 ghost use Rattle.std.specs.Borrow.{sem};
 ghost use Rattle.std.specs.Io.BufRead.{Rests, FillKeeps};
 ghost use Rattle.std.specs.Io.{StartsWith};

@@ -1,7 +1,8 @@
 // Listeners that write what they hear.
 ghost use Rattle.std.specs.Prelude.{◌≡◌, ℕ, List, OnOk, IsSomeAnd, length, ⊤};
 ghost use Rattle.std.specs.Io.KnownBytes.{Appends};
-ghost use Rattle.driver.specs.Printed.{Written, PrintsAnswer, ShowsPosition, PrintsPosition, PrintsRefusal, counted};
+ghost use Rattle.driver.specs.Printed.{Written, PrintsAnswer, ShowsPosition, PrintsPosition};
+ghost use Rattle.driver.specs.Printed.{PrintsRefusal, counted};
 ghost use Rattle.driver.specs.Tables.{game_on, limits_of, exchange_at};
 
 use crate::listener::Listener;
@@ -17,6 +18,7 @@ pub struct Answers<W> {
 }
 
 impl<W: Write> Answers<W> {
+    /// Writes to `out`, of which nothing has been written yet.
     pub fn new(out: W) -> Answers<W>
         ensures { result.out ≡ out }
     {
@@ -51,6 +53,7 @@ pub struct Positions<W> {
 }
 
 impl<W: Write> Positions<W> {
+    /// Writes to `out`, of which nothing has been written yet.
     pub fn new(out: W) -> Positions<W>
         ensures { result.out ≡ out }
     {
@@ -104,6 +107,7 @@ pub struct Refusals<W> {
 }
 
 impl<W: Write> Refusals<W> {
+    /// Writes to `out`, before the first line.
     pub fn new(out: W) -> Refusals<W>
         ensures out { result.out ≡ out }
         ensures none { result.lines ≡ 0 }
@@ -120,7 +124,8 @@ impl<W: Write> Refusals<W> {
 }
 
 impl<W: Write> Listener for Refusals<W> {
-    ghost heard = { λ s all. (s.lines ≡ counted (length all)) × IsSomeAnd (W.contents s.out) (Written PrintsRefusal 1 all) };
+    ghost heard = { λ s all. (s.lines ≡ counted (length all))
+        × IsSomeAnd (W.contents s.out) (Written PrintsRefusal 1 all) };
 
     ghost fails = { λ _ _. ⊤ };
 

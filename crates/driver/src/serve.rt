@@ -14,8 +14,8 @@ use std::alloc::Global;
 use std::io;
 use std::io::ErrorKind;
 
-/// Serves each line of an input up to its end, and gives what became of it to the listener before the next one is read. It fails where
-/// the input or the listener does. Nothing is allocated.
+/// Serves each line of an input up to its end, and gives what became of it to the listener before
+/// the next one is read. It fails where the input or the listener does. Nothing is allocated.
 pub fn serve_lines<R: Input, L: Listener>(
     table: &mut Table,
     input: &mut R,
@@ -23,9 +23,9 @@ pub fn serve_lines<R: Input, L: Listener>(
 ) -> io::Result<()>
     ensures served { MatchResult result
         (λ _. ServedAll (limits_of table.old) (R.remaining input.old)
-            (game_on table.old) (game_on table.new) (L.heard listener.old) (L.heard listener.new))
+        (game_on table.old) (game_on table.new) (L.heard listener.old) (L.heard listener.new))
         (λ _. CutOff L.heard L.fails (limits_of table.old) R.can_break (R.remaining input.old)
-            (game_on table.old) listener.old (game_on table.new) listener.new) }
+        (game_on table.old) listener.old (game_on table.new) listener.new) }
     ensures limits { limits_of table.new ≡ limits_of table.old }
 {
     let mut line = LineBuffer::new();

@@ -1,14 +1,15 @@
 // How often each kind of line came, and how long serving it took.
 ghost use Rattle.std.specs.Prelude.{◌≡◌, ℕ, ◌-◌, ◌^◌, min, List, ◌++◌, Some, string_bytes, OnOk};
 ghost use Rattle.std.specs.Duration.{as_nanos};
-ghost use Rattle.driver.specs.Timed.{no_lines, kind_of_line, name_of, capped, one_more, tally_of, noted, tally_line, times_lines};
+ghost use Rattle.driver.specs.Timed.{no_lines, kind_of_line, name_of, capped, one_more, tally_of};
+ghost use Rattle.driver.specs.Timed.{noted, tally_line, times_lines};
 
 use std::fmt;
 use std::time::Duration;
 use text::Line;
 use wire::Call;
 
-// What a line asks for, without its number.
+/// What a line asks for, without its number.
 #[derive(Clone, Copy, PartialEq, Eq, Debug)]
 pub enum Kind {
     Board,
@@ -57,7 +58,8 @@ impl fmt::Display for Kind {
     }
 }
 
-// How many lines of a kind came, the nanoseconds that they took in all, and those of the one that took longest.
+/// How many lines of a kind came, the nanoseconds that they took in all, and those of the one that
+/// took longest.
 #[derive(Clone, Copy)]
 pub struct Tally {
     count: u64,
@@ -65,7 +67,7 @@ pub struct Tally {
     longest: u64,
 }
 
-// The tally of each kind, in the order of the kinds.
+/// The tally of each kind, in the order of the kinds.
 #[derive(Clone, Copy)]
 pub struct Times {
     tallies: [Tally; 5],
@@ -91,7 +93,7 @@ impl Tally {
 }
 
 impl Times {
-    // The times before the first line.
+    /// The times before the first line.
     pub fn new() -> Times
         ensures { (kind : Kind) → tally_of result kind ≡ no_lines }
     {
@@ -107,7 +109,7 @@ impl Times {
         self.tallies[kind as usize]
     }
 
-    // Notes that serving a line of this kind took so long.
+    /// Notes that serving a line of this kind took so long.
     pub fn note(&mut self, kind: Kind, took: Duration)
         ensures { self.new ≡ noted self.old kind (capped (as_nanos took)) }
     {

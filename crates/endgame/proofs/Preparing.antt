@@ -1,9 +1,9 @@
 -- The links of a side, prepared cell by cell: what the loop keeps, and that they tell what the stones make of the empty cells.
-use Rattle.std.proofs.Common.{◌≡◌, ℕ, ◌+◌, ◌/◌, ◌%◌, ◌^◌, ◌<◌, ◌≤◌, Bool, true, false, eqb, ◌⊎◌, Decides, List, length, get_or, set, replicate, sym, refl, ap, ◌∙◌, subst, subst₂, ⊎_elim, mul-le-mul, arith}
+use Rattle.std.proofs.Common.{◌≡◌, ℕ, ◌+◌, ◌/◌, ◌%◌, ◌^◌, ◌<◌, ◌≤◌, Bool, true, false, eqb, ◌⊎◌, Decides, List, length, get_or, set, replicate, sym, refl, ap, ◌∙◌, subst, subst₂, ⊎_elim, mul-le-mul, arith, if◌then◌else◌}
 use lib.Bits.{bit_or}
 use Rattle.std.proofs.lemmas.List.{length-set, get_or-set_same, get_or-set_other}
 use Rattle.std.proofs.lemmas.Bool.{cases_eq, cases_lt, eqb-true, eq-eqb, both_ways}
-use Rattle.hexboard.specs.Board.{pick, Board, begins, ends}
+use Rattle.hexboard.specs.Board.{Board, begins, ends}
 use Rattle.hexboard.specs.Geometry.{laid, touch}
 use Rattle.hexboard.specs.Promise.{Good}
 use Rattle.groups.specs.Forest.{Forest, held}
@@ -27,7 +27,7 @@ set_none : (P : ℕ → Type 0) → SetOf 0 0 P
 set_none P = record { only = λ k h. absurd (omega (arith, bit_none k)); all = λ k l h. absurd (omega arith) }
 
 -- one more cell, put in if the test that P holds of it is true
-set_more : (P : ℕ → Type 0) (m x : ℕ) (t : Bool) → SetOf m x P → (t ≡ true → P m) → (P m → t ≡ true) → SetOf (m + 1) (pick t (bit_or x (2 ^ m)) x) P
+set_more : (P : ℕ → Type 0) (m x : ℕ) (t : Bool) → SetOf m x P → (t ≡ true → P m) → (P m → t ≡ true) → SetOf (m + 1) (if t then bit_or x (2 ^ m) else x) P
 set_more P m x true h so only_so = record {
   only = λ k i. ⊎_elim
       (λ old. let (l, p) = h.only k old in (omega arith, p))
@@ -56,7 +56,7 @@ preparing_none N T =
     record { room = refl; each = λ k l. absurd (omega arith); beyond = λ k l. nothing 16 k; at_first = set_none _; at_last = set_none _ }
 
 pub preparing_more : {N T : ℕ → ℕ} {m : ℕ} {near : List ℕ} {first last : ℕ} → Preparing N T m near first last → (v bits first' last' : ℕ) → m < 16 → v ≡ N m → bits ≡ T m →
-    first' ≡ pick (eqb (bits % 2) 1) (bit_or first (2 ^ m)) first → last' ≡ pick (eqb (bits / 2 % 2) 1) (bit_or last (2 ^ m)) last →
+    first' ≡ (if eqb (bits % 2) 1 then bit_or first (2 ^ m) else first) → last' ≡ (if eqb (bits / 2 % 2) 1 then bit_or last (2 ^ m) else last) →
     Preparing N T (m + 1) (set near m v) first' last'
 preparing_more {N} {T} {m} {near} {first} {last} h v bits first' last' l is-near is-bits is-first is_last = record {
   room = length-set near m v ∙ h.room;

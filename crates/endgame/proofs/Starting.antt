@@ -1,8 +1,8 @@
 -- The beginning of an end, with all its cells free: what the search tells there is so of the board itself.
-use Rattle.std.proofs.Common.{◌≡◌, ℕ, zero, suc, ◌+◌, ◌-◌, ◌*◌, ◌/◌, ◌^◌, ◌<◌, ◌≤◌, Some, eqb, ◌⊎◌, List, length, get_or, sym, refl, ◌∙◌, subst, inl, inr, ⊎_elim, mul-le-mul, pow-suc, arith, pow_pos}
+use Rattle.std.proofs.Common.{◌≡◌, ℕ, zero, suc, ◌+◌, ◌-◌, ◌*◌, ◌/◌, ◌^◌, ◌<◌, ◌≤◌, Some, eqb, ◌⊎◌, List, length, get_or, sym, refl, ◌∙◌, subst, inl, inr, ⊎_elim, mul-le-mul, pow-suc, arith, pow_pos, if◌then◌else◌}
 use Rattle.std.proofs.lemmas.Bool.{cases_lt, eq-eqb, ne_eqb}
 use Rattle.std.proofs.lemmas.Bool.Decides.{nat_tests}
-use Rattle.hexboard.specs.Board.{pick, Board, at, Connects, put, other}
+use Rattle.hexboard.specs.Board.{Board, at, Connects, put, other}
 use Rattle.hexboard.specs.Games.{Forces}
 use Rattle.hexboard.specs.Promise.{Good}
 use Rattle.hexboard.proofs.Boards.{other_side}
@@ -74,7 +74,7 @@ module _ {b : Board} {es : List ℕ} (n : Numbered b es) where
   pub after_step : (w k c : ℕ) → Side w → k < length es → Stands b es w (0 + 2 ^ k) c → Forces w (put b w (get_or es k 0)) (other w)
   after_step w k c side l f =
       forced_by n w side (0 + 2 ^ k) c f
-      (laid_put (λ j. pick (eqb j k) w 0) k w n laid_empty l (rw (eq-eqb k k refl)) (λ j apart. rw (ne_eqb j k apart)))
+      (laid_put (λ j. if eqb j k then w else 0) k w n laid_empty l (rw (eq-eqb k k refl)) (λ j apart. rw (ne_eqb j k apart)))
       (λ j m. ⊎_elim
       (λ (same, in-x). inr (inl (rw (eq-eqb j k same))))
       (λ (apart, out). ⊎_elim

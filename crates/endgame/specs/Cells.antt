@@ -1,11 +1,11 @@
 -- The empty cells of a board, listed. Definitions only.
-use Rattle.std.specs.Prelude.{◌≡◌, ℕ, suc, List, [], ◌∷◌, length, ◌==◌}
-use Rattle.hexboard.specs.Board.{pick, empties}
+use Rattle.std.specs.Prelude.{◌≡◌, ℕ, suc, List, [], ◌∷◌, length, ◌==◌, if◌then◌else◌}
+use Rattle.hexboard.specs.Board.{empties}
 
 -- the places of the zeros in a list, counted from i
 unfoldable pub zeros_from : ℕ → List ℕ → List ℕ
 zeros_from i [] = []
-zeros_from i (c ∷ cs) = pick (c == 0) (i ∷ zeros_from (suc i) cs) (zeros_from (suc i) cs)
+zeros_from i (c ∷ cs) = if c == 0 then i ∷ zeros_from (suc i) cs else zeros_from (suc i) cs
 
 -- the empty cells of a board, in their order
 abbrev pub free_cells : List ℕ → List ℕ

@@ -1,5 +1,7 @@
--- Ends of games: the empty cells of a board laid with stones, and what is said of wins there. Definitions only.
-use Rattle.std.specs.Prelude.{◌≡◌, ℕ, suc, ◌+◌, ◌-◌, ◌^◌, ◌<◌, cond, ◌⊎◌, List, [], ◌∷◌, length, ◌==◌, count_ones, slice_index, IfSome}
+-- Ends of games: the empty cells of a board laid with stones, and what is said of wins there.
+-- Definitions only.
+use Rattle.std.specs.Prelude.{◌≡◌, ℕ, suc, ◌+◌, ◌-◌, ◌^◌, ◌<◌, cond, ◌⊎◌, List, [], ◌∷◌, length}
+use Rattle.std.specs.Prelude.{◌==◌, count_ones, slice_index, IfSome}
 use Rattle.hexboard.specs.Board.{Board, at, Connects, put, other}
 use Rattle.hexboard.specs.Games.{Forces}
 use Rattle.hexboard.specs.Promise.{Good}
@@ -30,34 +32,39 @@ unfoldable pub lay : Board → (ℕ → ℕ) → List ℕ → Board
 lay b f [] = b
 lay b f (i ∷ es) = put (lay b (λ k. f (suc k)) es) (f 0) i
 
--- The board on which a win of side w is judged that rests on the cells c, its carrier: stones of w on the cells of x, the cells of c
--- empty, and all the other empty cells given to the loser. So a carried win does not depend on where the loser's stones are.
+-- The board on which a win of side w is judged that rests on the cells c, its carrier: stones of w
+-- on the cells of x, the cells of c empty, and all the other empty cells given to the loser. So a
+-- carried win does not depend on where the loser's stones are.
 unfoldable pub mark : ℕ → ℕ → ℕ → ℕ → ℕ
 mark w x c k = cond (bit k x == 1) w (cond (bit k c == 1) 0 (other w))
 
 abbrev pub board_within : Board → List ℕ → ℕ → ℕ → ℕ → Board
 board_within b es w x c = lay b (mark w x c) es
 
--- side w, with stones on x, can force that it connects within the carrier c: it is to move, or the other is
+-- side w, with stones on x, can force that it connects within the carrier c: it is to move, or the
+-- other is
 abbrev pub Wins : Board → List ℕ → ℕ → ℕ → ℕ → Type 0
 Wins b es w x c = Forces w (board_within b es w x c) w
 
 abbrev pub Stands : Board → List ℕ → ℕ → ℕ → ℕ → Type 0
 Stands b es w x c = Forces w (board_within b es w x c) (other w)
 
--- A node of the search: the stones of the side to move, those of the other, and the free cells share the e cells.
+-- A node of the search: the stones of the side to move, those of the other, and the free cells
+-- share the e cells.
 pub record Node (e x y free : ℕ) : Type 0 where
   pub position : PositionOf e x y
   pub free_fits : free < 2 ^ e
   pub each : (k : ℕ) → k < e → bit k x + (bit k y + bit k free) ≡ 1
 
--- The links of side w tell of each set x of stones of w on the e cells whether w has connected with them.
+-- The links of side w tell of each set x of stones of w on the e cells whether w has connected with
+-- them.
 pub record Describes (e : ℕ) (b : Board) (es : List ℕ) (w : ℕ) (l : Links) : Type 0 where
   pub both_ways : Mutual l.near
   pub connects : (x : ℕ) → x < 2 ^ e → Joins l x → Connects (board_within b es w x 0) w
   pub joins : (x : ℕ) → x < 2 ^ e → Connects (board_within b es w x 0) w → Joins l x
 
--- An end of a game: a board, its e empty cells numbered, side s to move, and the links of both sides.
+-- An end of a game: a board, its e empty cells numbered, side s to move, and the links of both
+-- sides.
 pub record Ending (e : ℕ) (b : Board) (es : List ℕ) (s : ℕ) (mine theirs : Links) : Type 0 where
   pub good : Good b
   pub side : (s ≡ 1) ⊎ (s ≡ 2)
@@ -66,13 +73,14 @@ pub record Ending (e : ℕ) (b : Board) (es : List ℕ) (s : ℕ) (mine theirs :
   pub own : Describes e b es s mine
   pub others : Describes e b es (other s) theirs
 
--- if side a was to move when the end began, s is to move with stones x of its own and y of the other
+-- if side a was to move when the end began, s is to move with stones x of its own and y of the
+-- other
 abbrev pub Turn : ℕ → ℕ → ℕ → ℕ → Type 0
 Turn a s x y =
     ((count_ones x ≡ count_ones y) × (s ≡ a)) ⊎ ((count_ones x + 1 ≡ count_ones y) × (s ≡ other a))
 
--- What an entry of the table says of a node: nothing, or that the side to move wins, or that the other does. The carrier of either
--- win is all that is free.
+-- What an entry of the table says of a node: nothing, or that the side to move wins, or that the
+-- other does. The carrier of either win is all that is free.
 pub data IsKnown (b : Board) (es : List ℕ) (s x y free v : ℕ) : Type 0 where
   unknown : v ≡ 0 → IsKnown b es s x y free v
   won : v ≡ 1 → Wins b es s x free → IsKnown b es s x y free v
@@ -81,7 +89,8 @@ pub data IsKnown (b : Board) (es : List ℕ) (s x y free v : ℕ) : Type 0 where
 -- all that the table says is so
 abbrev pub IsSound : ℕ → Board → List ℕ → ℕ → List ℕ → Type 0
 IsSound e b es a t =
-    (s x y free : ℕ) → Turn a s x y → Node e x y free → IsKnown b es s x y free (entry t (place e x y))
+    (s x y free : ℕ) → Turn a s x y → Node e x y free →
+    IsKnown b es s x y free (entry t (place e x y))
 
 -- the step is a free cell, and with its own stone there side s stands, within free cells
 pub record Step (b : Board) (es : List ℕ) (s x free step : ℕ) : Type 0 where
@@ -90,12 +99,14 @@ pub record Step (b : Board) (es : List ℕ) (s x free step : ℕ) : Type 0 where
   pub within : Within carrier free
   pub stands : Stands b es s (x + 2 ^ step) carrier
 
--- What the search tells of a node: the side to move wins within the carrier, by the step if one is named; or the other does.
+-- What the search tells of a node: the side to move wins within the carrier, by the step if one is
+-- named; or the other does.
 abbrev pub IsTold : Board → List ℕ → ℕ → ℕ → ℕ → ℕ → Found → Type 0
 IsTold b es s x y free (Won carrier step) = Wins b es s x carrier × IfSome step (Step b es s x free)
 IsTold b es s x y free (Lost carrier) = Stands b es (other s) y carrier
 
--- A position is decided by looking at it: a stone on a free cell connects, or of the free cells none meets all the other side's threats.
+-- A position is decided by looking at it: a stone on a free cell connects, or of the free cells
+-- none meets all the other side's threats.
 pub data IsSeen (mine theirs : Links) (p : Position) : Type 0 where
   connects : (k : ℕ) → bit k p.free ≡ 1 → Completes mine p.mine k → IsSeen mine theirs p
   threatened : (threats : ℕ) (cut : Cut) → Completions theirs p.theirs p.free threats →
@@ -115,8 +126,8 @@ KeepsFinding e mine theirs p u f =
 abbrev pub position_after : Position → ℕ → Position
 position_after p step = record { mine = p.theirs; theirs = p.mine + step; free = p.free - step }
 
--- For every end that has these links, and a sound table, in which nobody has connected yet: what is told is so, and the table is
--- sound afterwards.
+-- For every end that has these links, and a sound table, in which nobody has connected yet: what is
+-- told is so, and the table is sound afterwards.
 pub record Tells (e : ℕ) (mine theirs : Links) (p : Position) (t u : List ℕ) (f : Found) :
     Type 0 where
   pub of : (b : Board) (es : List ℕ) (a s : ℕ) → Ending e b es s mine theirs →

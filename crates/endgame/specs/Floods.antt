@@ -1,9 +1,11 @@
 -- Which empty cells a side's stones reach, over sets of cells alone. Definitions only.
 --
--- The empty cells of a position are numbered. `near` has for each of them the set of those that are next to it, directly or
--- through stones of the side; `first` and `last` are the sets of those at the side's first and last border, directly or through
--- stones. A set x of these cells are stones that the side has laid since.
-use Rattle.std.specs.Prelude.{◌≡◌, ℕ, ◌+◌, ◌*◌, ◌^◌, cond, List, bit_and, bit_or, count_ones, nat_lt, slice_index}
+-- The empty cells of a position are numbered. `near` has for each of them the set of those that are
+-- next to it, directly or through stones of the side; `first` and `last` are the sets of those at
+-- the side's first and last border, directly or through stones. A set x of these cells are stones
+-- that the side has laid since.
+use Rattle.std.specs.Prelude.{◌≡◌, ℕ, ◌+◌, ◌*◌, ◌^◌, cond, List, bit_and, bit_or, count_ones}
+use Rattle.std.specs.Prelude.{nat_lt, slice_index}
 use Rattle.ranking.specs.Sets.{bit, Within}
 use Rattle.endgame.specs.declared.links.Links.{Links}
 
@@ -32,7 +34,8 @@ pub record Joined (near : List ℕ) (first last x : ℕ) : Type 0 where
   pub led : Touched near first x cell
   pub at_last : bit cell last ≡ 1
 
--- the stones x join the two borders, by the links of a side; or a stone on cell k, added to them, does
+-- the stones x join the two borders, by the links of a side; or a stone on cell k, added to them,
+-- does
 abbrev pub Joins : Links → ℕ → Type 0
 Joins l x = Joined l.near l.first l.last x
 
@@ -49,8 +52,9 @@ pub record Completions (l : Links) (x free r : ℕ) : Type 0 where
 abbrev pub common : ℕ → ℕ → ℕ
 common x y = cond (nat_lt 0 (bit_and x y)) 1 0
 
--- A stone on cell k, with stones x laid before, weighs w: as many free cells as the flood from what is near it touches, and two more for
--- each border that it or the stones touched by the flood are at.
+-- A stone on cell k, with stones x laid before, weighs w: as many free cells as the flood from what
+-- is near it touches, and two more for each border that it or the stones touched by the flood are
+-- at.
 pub record Weighs (l : Links) (k x free w : ℕ) : Type 0 where
   pub reached : ℕ
   pub floods : Flood l.near (slice_index l.near k) x reached

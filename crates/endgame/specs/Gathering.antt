@@ -1,6 +1,8 @@
--- What a side's stones bring together, cell by cell and neighbour by neighbour, as code can follow it. Definitions only.
-use Rattle.std.specs.Prelude.{ℕ, zero, suc, ◌^◌, List, replicate, Some, None, Option, ◌==◌, bit_or, slice_index, slice_set}
-use Rattle.hexboard.specs.Board.{pick, Board, at, other}
+-- What a side's stones bring together, cell by cell and neighbour by neighbour, as code can follow
+-- it. Definitions only.
+use Rattle.std.specs.Prelude.{ℕ, zero, suc, ◌^◌, List, replicate, Some, None, Option, ◌==◌, bit_or}
+use Rattle.std.specs.Prelude.{slice_index, slice_set, if◌then◌else◌}
+use Rattle.hexboard.specs.Board.{Board, at, other}
 use Rattle.hexboard.specs.Geometry.{neighbour_of, touch, over}
 use Rattle.groups.specs.Forest.{root}
 
@@ -8,24 +10,27 @@ use Rattle.groups.specs.Forest.{root}
 abbrev pub enter : ℕ → ℕ → List ℕ → List ℕ
 enter k r sets = slice_set sets r (bit_or (slice_index sets r) (2 ^ k))
 
--- what lies next to the k-th empty cell is looked at: a stone of side w brings k into the set of its root
+-- what lies next to the k-th empty cell is looked at: a stone of side w brings k into the set of
+-- its root
 abbrev pub entered_at : Board → ℕ → List ℕ → ℕ → Option ℕ → List ℕ → List ℕ
 entered_at b w ps k None sets = sets
-entered_at b w ps k (Some p) sets = pick (at b p == w) (enter k (root ps p) sets) sets
+entered_at b w ps k (Some p) sets = if at b p == w then enter k (root ps p) sets else sets
 
 -- the k-th empty cell, i, comes into its own set, and into those of the groups next to it
 abbrev pub entered_all : Board → ℕ → List ℕ → ℕ → ℕ → List ℕ → List ℕ
 entered_all b w ps k i sets = over (entered_at b w ps k) (neighbour_of b.wide i) 6 (enter k i sets)
 
--- The first m of the cells es, gathered by what they touch: at a root, those next to its group; at an empty cell, itself.
+-- The first m of the cells es, gathered by what they touch: at a root, those next to its group; at
+-- an empty cell, itself.
 unfoldable pub gathered : Board → ℕ → List ℕ → List ℕ → ℕ → List ℕ
 gathered b w ps es zero = replicate 361 0
 gathered b w ps es (suc m) = entered_all b w ps m (slice_index es m) (gathered b w ps es m)
 
--- what lies next to a cell is looked at: unless it is a stone of the other side, what f has for its root joins x
+-- what lies next to a cell is looked at: unless it is a stone of the other side, what f has for its
+-- root joins x
 abbrev pub joined_at : Board → ℕ → List ℕ → (ℕ → ℕ) → Option ℕ → ℕ → ℕ
 joined_at b w ps f None x = x
-joined_at b w ps f (Some p) x = pick (at b p == other w) x (bit_or x (f (root ps p)))
+joined_at b w ps f (Some p) x = if at b p == other w then x else bit_or x (f (root ps p))
 
 -- what a list has for a root
 abbrev pub by_root : List ℕ → ℕ → ℕ

@@ -1,4 +1,5 @@
--- What the links of a side should be on a board: which empty cells its stones tie together, and tie to its borders. Definitions only.
+-- What the links of a side should be on a board: which empty cells its stones tie together, and tie
+-- to its borders. Definitions only.
 use Rattle.std.specs.Prelude.{◌≡◌, ℕ, ◌<◌, Bool, true, List, length, slice_index}
 use Rattle.hexboard.specs.Board.{Board, next_to, begins, ends}
 use Rattle.hexboard.specs.Rows.{Row}

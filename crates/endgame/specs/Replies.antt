@@ -3,7 +3,8 @@ use Rattle.std.specs.Prelude.{◌≡◌, ℕ, ◌≢◌}
 use Rattle.ranking.specs.Sets.{bit, Within}
 use Rattle.endgame.specs.declared.search.Cut.{Cut}
 
--- Of the free cells those in `must` meet every threat, and only they can help: each of the others leaves a threat that is in `lost`.
+-- Of the free cells those in `must` meet every threat, and only they can help: each of the others
+-- leaves a threat that is in `lost`.
 pub record Replied (threats free : ℕ) (r : Cut) : Type 0 where
   pub inside : Within r.must free
   pub meets : (k t : ℕ) → bit k r.must ≡ 1 → bit t threats ≡ 1 → t ≡ k

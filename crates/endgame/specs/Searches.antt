@@ -23,9 +23,9 @@ stones_of p = count_ones p.mine + count_ones p.theirs
 abbrev pub IsReadable : List ℕ → Type 0
 IsReadable t = (i : ℕ) → entry t i < 3
 
--- What was done before position p is looked at: as many positions were searched as have an entry; and
--- each look was at what a move leads to, in one of those or in a position on the way here. There is one
--- of these for each stone, with at most 16 moves.
+-- What was done before position p is looked at: as many positions were searched as have an entry;
+-- and each look was at what a move leads to, in one of those or in a position on the way here.
+-- There is one of these for each stone, with at most 16 moves.
 pub record Accounts (e : ℕ) (p : Position) (done : Effort) (t : List ℕ) : Type 0 where
   pub readable : IsReadable t
   pub searched : done.searched ≡ entries e t
@@ -52,8 +52,8 @@ pub record SearchesOnce (e : ℕ) (mine theirs : Links) (p : Position) (before a
   pub looks_few : after.looks + moves e t ≤ before.looks + 1 + moves e u
 
 -- What was done for a whole question, of an end with e cells, with table t afterwards: as many
--- positions were searched as have an entry, so none was searched twice; they are no more than there are;
--- and beside the first look there was at most one for each of their moves.
+-- positions were searched as have an entry, so none was searched twice; they are no more than there
+-- are; and beside the first look there was at most one for each of their moves.
 pub record IsOnce (e : ℕ) (done : Effort) (t : List ℕ) : Type 0 where
   pub searched : done.searched ≡ entries e t
   pub few : done.searched ≤ total e

@@ -4,7 +4,8 @@ ghost use Rattle.std.specs.Prelude.{◌≡◌, ℕ, ◌*◌, length};
 use arrayvec::ArrayVec;
 use hexboard::Size;
 
-/// The stones of a position, a byte for each cell, and the memory of their groups, as the crate `groups` lays it out.
+/// The stones of a position, a byte for each cell, and the memory of their groups, as the crate
+/// `groups` lays it out.
 #[derive(Clone, Copy)]
 pub struct Grouped<'a> {
     pub size: Size,

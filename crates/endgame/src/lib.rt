@@ -1,5 +1,6 @@
-// The end of a game: its empty cells are numbered, and the links of both sides prepared from the groups on the board; the search looks
-// through it; and what it finds is answered: whether the side to move can force that it connects, and by which move.
+// The end of a game: its empty cells are numbered, and the links of both sides prepared from the
+// groups on the board; the search looks through it; and what it finds is answered: whether the side
+// to move can force that it connects, and by which move.
 #![tactic(auto)]
 
 mod grouped;

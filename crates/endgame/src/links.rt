@@ -4,9 +4,9 @@ ghost use Rattle.endgame.specs.Floods.{Flood, Completions, common, Weighs};
 
 use ranking::{lowest, one};
 
-// The empty cells of a position, at most 16, are numbered. `near` has for each the set of those that are next to it, directly or
-// through stones of the side; `first` and `last` are the sets of those at the side's first and last border, directly or through
-// stones.
+/// The empty cells of a position, at most 16, are numbered. `near` has for each the set of those
+/// that are next to it, directly or through stones of the side; `first` and `last` are the sets of
+/// those at the side's first and last border, directly or through stones.
 #[derive(Drop)]
 pub struct Links {
     pub near: [u64; 16],
@@ -15,7 +15,8 @@ pub struct Links {
 }
 
 impl Links {
-    // The cells that the flood from a set of cells touches: those, and what is near a touched stone.
+    // The cells that the flood from a set of cells touches: those, and what is near a touched
+    // stone.
     fn flood(&self, from: u64, stones: u64) -> u64
         requires { stones < 2 ^ 16 }
         ensures { Flood self.now.near from stones result }
@@ -31,7 +32,7 @@ impl Links {
         touched
     }
 
-    // The free cells on which a stone joins the side's borders.
+    /// The free cells on which a stone joins the side's borders.
     pub fn completions(&self, stones: u64, free: u64) -> u64
         requires { stones < 2 ^ 16 }
         ensures { Completions self.now stones free result }
@@ -39,8 +40,8 @@ impl Links {
         free & self.flood(self.first, stones) & self.flood(self.last, stones)
     }
 
-    // How well a stone on a cell would be linked: the free cells that it reaches through the side's stones laid since, and two more for
-    // each border of the side that it reaches.
+    /// How well a stone on a cell would be linked: the free cells that it reaches through the
+    /// side's stones laid since, and two more for each border of the side that it reaches.
     pub fn weight(&self, cell: u32, stones: u64, free: u64) -> u32
         requires inside { cell < 16 }
         requires few { stones < 2 ^ 16 }

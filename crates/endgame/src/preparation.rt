@@ -1,6 +1,6 @@
 // How the stones of a side tie the empty cells together, found from the side's groups.
 ghost use Rattle.std.specs.Prelude.{◌≡◌, ◌%◌, ◌^◌, ◌<◌, ◌==◌, length, bit_or, slice_index};
-ghost use Rattle.hexboard.specs.Board.{pick};
+ghost use Rattle.std.specs.Prelude.{if◌then◌else◌};
 ghost use Rattle.hexboard.specs.Sides.{number};
 ghost use Rattle.endgame.specs.Gathering.{enter, entered_all, gathered, near_at, borders_at};
 ghost use Rattle.endgame.specs.Grouped.{board, parents};
@@ -12,8 +12,9 @@ use arrayvec::ArrayVec;
 use hexboard::{Neighbours, Side};
 use ranking::one;
 
-// What lies around an empty cell: the empty cells next to it, directly or through stones of the side, and the borders that it
-// touches, itself or through stones, as two bits: 1 for the first, 2 for the last, as the memory of the groups has them.
+// What lies around an empty cell: the empty cells next to it, directly or through stones of the
+// side, and the borders that it touches, itself or through stones, as two bits: 1 for the first, 2
+// for the last, as the memory of the groups has them.
 #[derive(Clone, Copy)]
 struct Around {
     near: u64,
@@ -39,8 +40,8 @@ impl Grouped<'_> {
         Links { near, first, last }
     }
 
-    // The empty cells gathered by what they touch: at the root of a group of the side, the set of those next to the group; at an
-    // empty cell, the set of that cell alone.
+    // The empty cells gathered by what they touch: at the root of a group of the side, the set of
+    // those next to the group; at an empty cell, the set of that cell alone.
     fn gather(&self, side: Side, cells: &ArrayVec<u16, 16>) -> [u64; 361]
         ensures { result
             ≡ gathered (board self.now) (number side) (parents self.now) cells.now.items
@@ -53,10 +54,12 @@ impl Grouped<'_> {
         sets
     }
 
-    // Puts the k-th empty cell into its own set, and into those of the groups of the side next to it.
+    // Puts the k-th empty cell into its own set, and into those of the groups of the side next to
+    // it.
     fn enter_all(&self, side: Side, cell: u16, k: u32, sets: &mut [u64])
         requires { k < 64 }
-        ensures { sets.new ≡ entered_all (board self.now) (number side) (parents self.now) k cell sets.old }
+        ensures { sets.new ≡ entered_all (board self.now) (number side)
+            (parents self.now) k cell sets.old }
     {
         enter(sets, cell, k);
         for near in Neighbours::of(self.size, cell) {
@@ -66,9 +69,11 @@ impl Grouped<'_> {
         }
     }
 
-    // What lies around an empty cell: what its neighbours' roots have, unless they are stones of the other side.
+    // What lies around an empty cell: what its neighbours' roots have, unless they are stones of
+    // the other side.
     fn look_around(&self, side: Side, sets: &[u64], cell: u16) -> Around
-        ensures near { result.near ≡ near_at (board self.now) (number side) (parents self.now) sets.now cell }
+        ensures near { result.near ≡ near_at (board self.now) (number side)
+            (parents self.now) sets.now cell }
         ensures borders { result.borders
             ≡ borders_at (board self.now) (number side) (parents self.now) self.now.borders.now cell }
     {
@@ -108,7 +113,7 @@ fn read(sets: &[u64], place: u16) -> u64
 // The set with the k-th cell in it, if the lowest of the bits is set.
 fn add_if(set: u64, k: u32, bits: u8) -> u64
     requires { k < 64 }
-    ensures { result ≡ pick (bits % 2 == 1) (bit_or set (2 ^ k)) set }
+    ensures { result ≡ (if bits % 2 == 1 then bit_or set (2 ^ k) else set) }
 {
     if bits % 2 == 1 { set | one(k) } else { set }
 }

@@ -16,7 +16,7 @@ use crate::links::Links;
 use crate::winner::Winner;
 use ranking::{Cells, Ranking, get, lowest, one, put};
 
-// The stones laid since the end began, of the side to move and of the other, and the free cells.
+/// The stones laid since the end began, of the side to move and of the other, and the free cells.
 #[derive(Clone, Copy)]
 pub struct Position {
     pub mine: u64,
@@ -39,15 +39,17 @@ impl Position {
     }
 }
 
-// Whether the side to move wins or loses; and the cells that this rests on, its carrier: even if all the other free cells go to the
-// loser, it stands. The step is the cell of a winning move, if one is known.
+/// Whether the side to move wins or loses; and the cells that this rests on, its carrier: even if
+/// all the other free cells go to the loser, it stands. The step is the cell of a winning move, if
+/// one is known.
 #[derive(Clone, Copy)]
 pub enum Found {
     Won { carrier: u64, step: Option<u32> },
     Lost { carrier: u64 },
 }
 
-// What the table tells of the position at a place, if it has an entry: who wins, within all the cells that are free.
+// What the table tells of the position at a place, if it has an entry: who wins, within all the
+// cells that are free.
 fn known(table: &[u8], place: usize, free: u64) -> Option<Found>
     requires { place / 4 < length table.now }
     ensures { TellsKnown (entry table.now place) free result }
@@ -61,15 +63,15 @@ fn known(table: &[u8], place: usize, free: u64) -> Option<Found>
     })
 }
 
-// The cells that must be tried, and those of the threats that show the others to be lost.
+/// The cells that must be tried, and those of the threats that show the others to be lost.
 #[derive(Clone, Copy)]
 pub struct Cut {
     pub must: u64,
     pub lost: u64,
 }
 
-// Where the other side threatens nothing every free cell must be tried; where it threatens to connect on one cell, that cell; where
-// on two, none helps.
+// Where the other side threatens nothing every free cell must be tried; where it threatens to
+// connect on one cell, that cell; where on two, none helps.
 fn replies(threats: u64, free: u64) -> Cut
     requires { Within threats free }
     ensures { Replied threats free result }
@@ -97,8 +99,9 @@ fn replies(threats: u64, free: u64) -> Cut
 // The cells that an end can have.
 const CELLS: u64 = 0xffff;
 
-// Of the cells that must be tried, the first of those that are linked best for both sides together. Only stones on cells of an end weigh.
-// Which cell it is decides how soon the answer is found, and which of several winning moves is named, and never whether there is one.
+// Of the cells that must be tried, the first of those that are linked best for both sides together.
+// Only stones on cells of an end weigh. Which cell it is decides how soon the answer is found, and
+// which of several winning moves is named, and never whether there is one.
 fn best(mine: &Links, theirs: &Links, at: Position, must: u64) -> u32
     requires some { 0 < must }
     requires fits { must < 2 ^ 16 }
@@ -122,14 +125,16 @@ fn best(mine: &Links, theirs: &Links, at: Position, must: u64) -> u32
     best
 }
 
-/// What was done to answer a question: how many positions were searched, and how many times one was looked at.
+/// What was done to answer a question: how many positions were searched, and how many times one was
+/// looked at.
 #[derive(Clone, Copy, PartialEq, Eq, Debug)]
 pub struct Effort {
     pub searched: u64,
     pub looks: u64,
 }
 
-// A search through an end: what the places of its positions are reckoned from, and what was done so far.
+/// A search through an end: what the places of its positions are reckoned from, and what was done
+/// so far.
 #[derive(Drop)]
 pub struct Search {
     pub ranking: Ranking,
@@ -149,7 +154,7 @@ impl Effort {
 }
 
 impl Search {
-    // For ends with so many cells, with nothing done yet.
+    /// For ends with so many cells, with nothing done yet.
     pub fn new(cells: u32) -> Search
         requires { cells ≤ 16 }
         ensures cells { result.ranking.cells ≡ cells }
@@ -161,7 +166,7 @@ impl Search {
         }
     }
 
-    // Who wins from the beginning of the end, with all its cells free. Nothing was done before.
+    /// Who wins from the beginning of the end, with all its cells free. Nothing was done before.
     pub fn look_through(&mut self, table: &mut [u8], mine: &Links, theirs: &Links) -> Found
         requires new { self.old.effort ≡ nothing_done }
         requires room { total self.old.ranking.cells ≤ 4 * length table.old }
@@ -180,12 +185,15 @@ impl Search {
         self.solve(table, mine, theirs, start)
     }
 
-    // Who wins a position: a look at it. A cell that connects at once is taken; else, where the other threatens to connect on two cells,
-    // nothing helps, and where on one, it is stopped. A position that is not decided so is searched once: what is found goes into the table.
-    // After a move that loses only the cells of the winner's carrier are tried, since any other move would leave that win as it is.
-    //
-    // The parameters stand apart: two of them change places with every move, so a struct of them would be made anew for each. Lent so, the
-    // search took longer, 20.3 ms and not 19.9 for the ends of random-5.
+    /// Who wins a position: a look at it. A cell that connects at once is taken; else, where the
+    /// other threatens to connect on two cells, nothing helps, and where on one, it is stopped. A
+    /// position that is not decided so is searched once: what is found goes into the table. After a
+    /// move that loses only the cells of the winner's carrier are tried, since any other move would
+    /// leave that win as it is.
+    ///
+    /// The parameters stand apart: two of them change places with every move, so a struct of them
+    /// would be made anew for each. Lent so, the search took longer, 20.3 ms and not 19.9 for the
+    /// ends of random-5.
     pub fn solve(&mut self, table: &mut [u8], mine: &Links, theirs: &Links, at: Position) -> Found
         requires node { Node self.old.ranking.cells at.mine at.theirs at.free }
         requires room { total self.old.ranking.cells ≤ 4 * length table.old }

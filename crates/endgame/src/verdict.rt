@@ -1,4 +1,5 @@
-// Whether a side to move can force that it connects, and by which move, in a position with few empty cells.
+// Whether a side to move can force that it connects, and by which move, in a position with few
+// empty cells.
 ghost use Rattle.std.specs.Prelude.{◌≡◌, ◌<◌, ◌≤◌, length};
 ghost use Rattle.hexboard.specs.Board.{empties};
 ghost use Rattle.hexboard.specs.Sides.{number};
@@ -25,9 +26,10 @@ pub fn table_bytes(size: Size) -> usize
     if size.width() < 4 { 1512 } else { 2541445 }
 }
 
-/// Whether a side to move can force that it connects, in a position where nobody has connected; and what was done to find out. More than 16
-/// empty cells are too many: then nothing is done. The table may hold anything before; afterwards it has the winners of the positions that
-/// were searched, and behind the bytes that positions of this end take it is as it was.
+/// Whether a side to move can force that it connects, in a position where nobody has connected; and
+/// what was done to find out. More than 16 empty cells are too many: then nothing is done. The
+/// table may hold anything before; afterwards it has the winners of the positions that were
+/// searched, and behind the bytes that positions of this end take it is as it was.
 pub fn can_force(position: &Grouped, side: Side, table: &mut [u8]) -> (Verdict, Effort)
     requires { bytes_of_table position.now.size.n ≤ length table.old }
     ensures right { Judges position.now.size.n (number side)

@@ -2,7 +2,7 @@
 ghost use Rattle.std.specs.Prelude.{◌≡◌};
 ghost use Rattle.endgame.specs.Winners.{entry_of, Reads};
 
-// The side to move, or the other.
+/// The side to move, or the other.
 #[derive(Clone, Copy)]
 pub enum Winner {
     Mover,
@@ -10,7 +10,7 @@ pub enum Winner {
 }
 
 impl Winner {
-    // The winner that an entry tells, if it tells one.
+    /// The winner that an entry tells, if it tells one.
     pub fn of_entry(entry: u8) -> Option<Winner>
         ensures { Reads entry result }
     {

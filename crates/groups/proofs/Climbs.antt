@@ -1,15 +1,14 @@
 -- Climbs in a forest: each way up ends at a root within as many steps as cells hang, and what a join does to roots.
-use Rattle.std.proofs.Common.{◌≡◌, ℕ, zero, suc, ◌+◌, ◌-◌, ◌<◌, ◌≤◌, eqb, ◌≢◌, List, [], ◌∷◌, length, get_or, set, sym, refl, ap, ◌∙◌, ⊎_elim, suc-add, zero-add, arith}
+use Rattle.std.proofs.Common.{◌≡◌, ℕ, zero, suc, ◌+◌, ◌-◌, ◌<◌, ◌≤◌, eqb, ◌≢◌, List, [], ◌∷◌, length, get_or, set, sym, refl, ap, ◌∙◌, ⊎_elim, suc-add, zero-add, arith, if◌then◌else◌}
 use Rattle.std.proofs.lemmas.List.{get_or-set_same, get_or-set_other}
 use Rattle.std.proofs.lemmas.Bool.{cases_eq}
 use Rattle.std.proofs.lemmas.Bool.Decides.{nat_tests}
-use Rattle.hexboard.specs.Board.{pick}
 use Rattle.groups.specs.Forest.{parent, climb, root}
 
 -- how many cells hang from another, where the first has number i
 pub hung_from : ℕ → List ℕ → ℕ
 hung_from i [] = 0
-hung_from i (p ∷ ps) = pick {A = ℕ} (eqb p i) 0 1 + hung_from (suc i) ps
+hung_from i (p ∷ ps) = (if eqb p i then 0 else 1) + hung_from (suc i) ps
 
 -- how many cells hang from another
 abbrev pub hung : List ℕ → ℕ
@@ -77,7 +76,7 @@ module _ (ps : List ℕ) (ends : Rooted ps) where
 
 -- the root of cells that had root q, when root r has been hung from root x
 abbrev pub rerooted : ℕ → ℕ → ℕ → ℕ
-rerooted r x q = pick (eqb q r) x q
+rerooted r x q = if eqb q r then x else q
 
 -- Who had root r has root x, and who had another keeps it.
 pub rerooted_same : (r x q : ℕ) → q ≡ r → rerooted r x q ≡ x

@@ -1,8 +1,8 @@
 -- Moves are stones of the sides in turn: what holds of stones, said of the list of moves.
-use Rattle.std.proofs.Common.{◌≡◌, ℕ, ◌%◌, true, eqb, ◌⊎◌, List, [], ◌∷◌, ◌++◌, length, sym, refl, ap, ◌∙◌, subst, inl, arith}
+use Rattle.std.proofs.Common.{◌≡◌, ℕ, ◌%◌, true, eqb, ◌⊎◌, List, [], ◌∷◌, ◌++◌, length, sym, refl, ap, ◌∙◌, subst, inl, arith, if◌then◌else◌}
 use Rattle.std.proofs.lemmas.List.{length_push}
 use Rattle.std.proofs.lemmas.Bool.Decides.{nat_tests}
-use Rattle.hexboard.specs.Board.{pick, put, other}
+use Rattle.hexboard.specs.Board.{put, other}
 use Rattle.hexboard.proofs.Boards.{other_side}
 use Rattle.groups.specs.Stones.{Placement, stone, is_free, AreLegal}
 use Rattle.groups.specs.Moves.{in_turn, stones_of, turn_of, board_of, Legal}
@@ -12,7 +12,7 @@ use Rattle.groups.proofs.Positions as positions
 
 -- the side to move after a list of moves, where side s moves first
 abbrev turn_from : ℕ → List ℕ → ℕ
-turn_from s ms = pick (eqb (length ms % 2) 0) s (other s)
+turn_from s ms = if eqb (length ms % 2) 0 then s else other s
 
 -- With one more move the other side is to move,
 turn_more : (s : ℕ) (ms : List ℕ) (x : ℕ) → (s ≡ 1) ⊎ (s ≡ 2) → turn_from s (x ∷ ms) ≡ turn_from (other s) ms

@@ -1,9 +1,9 @@
 -- A stone taken out again: what it took in is apart, and every number is what it was.
-use Rattle.std.proofs.Common.{◌≡◌, ℕ, zero, suc, ◌+◌, ◌<◌, ◌≤◌, Bool, true, false, eqb, ◌≢◌, ◌⊎◌, List, length, set, Some, None, Option, sym, refl, ap, ◌∙◌, inl, inr, ⊎_elim, add-one, arith}
+use Rattle.std.proofs.Common.{◌≡◌, ℕ, zero, suc, ◌+◌, ◌<◌, ◌≤◌, Bool, true, false, eqb, ◌≢◌, ◌⊎◌, List, length, set, Some, None, Option, sym, refl, ap, ◌∙◌, inl, inr, ⊎_elim, add-one, arith, if◌then◌else◌}
 use Rattle.std.proofs.lemmas.List.{length-set, get_or-set_same, get_or-set_other, get_or_default, set-set, set-get_or, set_past, same_lists}
 use Rattle.std.proofs.lemmas.Bool.{cases_eq, cases_lt}
 use Rattle.std.proofs.lemmas.Bool.Decides.{nat_tests}
-use Rattle.hexboard.specs.Board.{pick, Board, at}
+use Rattle.hexboard.specs.Board.{Board, at}
 use Rattle.hexboard.specs.Rows.{Stone}
 use Rattle.hexboard.specs.Geometry.{over}
 use Rattle.groups.specs.Forest.{Forest, parent, root, join, take_in, adopt, alone, freed, free, lift}
@@ -89,7 +89,7 @@ taken_more : (x r : ℕ) (ps qs : List ℕ) → Taken x ps qs → parent qs r �
 taken_more x r ps qs t top = ⊎_elim (λ l. taken_here x r ps qs t l top) (λ past. rw (set_past qs r x past) t) (cases_lt r (length qs))
 
 -- What holds of both values holds of the one that is picked.
-pick_both : {A : Type 0} (P : A → Type 0) (c : Bool) (u v : A) → P u → P v → P (pick c u v)
+pick_both : {A : Type 0} (P : A → Type 0) (c : Bool) (u v : A) → P u → P v → P (if c then u else v)
 pick_both P true u v p q = p
 pick_both P false u v p q = q
 

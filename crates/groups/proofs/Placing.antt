@@ -1,9 +1,9 @@
 -- A stone comes to an empty cell: it stands alone first, then meets its neighbours one by one, for any nearness and any borders.
-use Rattle.std.proofs.Common.{◌≡◌, ℕ, zero, suc, ◌+◌, ◌<◌, Bool, true, eqb, ◌≢◌, ◌⊎◌, List, length, get_or, set, Some, None, Option, sym, refl, ap, ◌∙◌, subst, subst₂, inl, inr, ⊎_elim, arith}
+use Rattle.std.proofs.Common.{◌≡◌, ℕ, zero, suc, ◌+◌, ◌<◌, Bool, true, eqb, ◌≢◌, ◌⊎◌, List, length, get_or, set, Some, None, Option, sym, refl, ap, ◌∙◌, subst, subst₂, inl, inr, ⊎_elim, arith, if◌then◌else◌}
 use Rattle.std.proofs.lemmas.List.{length-set, get_or-set_same, get_or-set_other, get_or_past}
 use Rattle.std.proofs.lemmas.Bool.{cases_eq, cases_lt, eq-eqb, ne_eqb}
 use Rattle.std.proofs.lemmas.Option.{none-some, same_Some}
-use Rattle.hexboard.specs.Board.{pick, Board, at, put}
+use Rattle.hexboard.specs.Board.{Board, at, put}
 use Rattle.hexboard.specs.Geometry.{over}
 use Rattle.hexboard.specs.Rows.{Chain, here, Stone}
 use Rattle.hexboard.proofs.Given.{over_end, over_met}
@@ -30,10 +30,10 @@ module _ (b : Board) (s x : ℕ) (next : ℕ → Option ℕ) (f h : Forest) wher
     pub adopt_stone : (r : ℕ) (new : Forest) → at b y ≡ s → r ≡ root h.parents y → new ≡ join r x h → new ≡ adopt b s x next (k + 1) f
     adopt_stone r new own up t =
         over_met (take_in b s x) next k f h new y is so_far
-        (t ∙ ap (λ q. join q x h) up ∙ ap (λ c. pick c (join (root h.parents y) x h) h) (sym (eq-eqb (at b y) s own)))
+        (t ∙ ap (λ q. join q x h) up ∙ ap (λ c. if c then join (root h.parents y) x h else h) (sym (eq-eqb (at b y) s own)))
 
     pub adopt_other : (at b y ≡ s → ⊥) → h ≡ adopt b s x next (k + 1) f
-    adopt_other isnt = over_met (take_in b s x) next k f h h y is so_far (ap (λ c. pick c (join (root h.parents y) x h) h) (sym (ne_eqb (at b y) s isnt)))
+    adopt_other isnt = over_met (take_in b s x) next k f h h y is so_far (ap (λ c. if c then join (root h.parents y) x h else h) (sym (ne_eqb (at b y) s isnt)))
 
 -- Only what lies next to x is looked at: boards that are the same there are the same to it.
 pub adopt_alike : (b c : Board) (s x : ℕ) (next : ℕ → Option ℕ) → ((k y : ℕ) → next k ≡ Some y → at b y ≡ at c y) →
@@ -44,7 +44,7 @@ adopt_alike b c s x next same (suc m) f = look (next m) refl ∙ ap (take_in c s
   where
     look : (o : Option ℕ) → next m ≡ o → take_in b s x o (adopt b s x next m f) ≡ take_in c s x o (adopt b s x next m f)
     look None e = refl
-    look (Some y) e = ap (λ v. pick (eqb v s) (join (root (adopt b s x next m f).parents y) x (adopt b s x next m f)) (adopt b s x next m f)) (same m y e)
+    look (Some y) e = ap (λ v. if eqb v s then join (root (adopt b s x next m f).parents y) x (adopt b s x next m f) else adopt b s x next m f) (same m y e)
 
 -- Only cells of the board hold stones.
 pub stone_here : (b : Board) (s y : ℕ) → s ≢ 0 → at b y ≡ s → Stone b s y
@@ -168,9 +168,9 @@ module _ (b : Board) (s x : ℕ) (side : s ≢ 0) (on : x < length b.cells) (fre
       one_more m h None e w = nothing_new m h (λ y q _. none-some y (sym e ∙ q)) w
       one_more m h (Some y) e w =
           ⊎_elim
-          (λ is. subst (λ t. Growing (suc m) (pick t (join (root h.parents y) x h) h)) (sym (eq-eqb (at b y) s is)) (one_met m y h e (stone_here b s y side is) w))
+          (λ is. subst (λ t. Growing (suc m) (if t then join (root h.parents y) x h else h)) (sym (eq-eqb (at b y) s is)) (one_met m y h e (stone_here b s y side is) w))
           (λ isnt.
-          subst (λ t. Growing (suc m) (pick t (join (root h.parents y) x h) h)) (sym (ne_eqb (at b y) s isnt))
+          subst (λ t. Growing (suc m) (if t then join (root h.parents y) x h else h)) (sym (ne_eqb (at b y) s isnt))
           (nothing_new m h (λ z q o. isnt (ap (at b) (same_Some _ _ (sym e ∙ q)) ∙ o.1)) w))
           (cases_eq (at b y) s)
 

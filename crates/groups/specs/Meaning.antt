@@ -1,10 +1,12 @@
 -- What the groups mean, for every legal list of stones on boards of every size: who hangs together,
 -- and who has connected.
-use Rattle.std.specs.Prelude.{◌≡◌, ℕ, ◌*◌, ◌%◌, ◌<◌, Bool, ◌≢◌, ◌↔◌, List, [], ◌∷◌, ◌++◌, length, IsTrue, slice_index}
+use Rattle.std.specs.Prelude.{◌≡◌, ℕ, ◌*◌, ◌%◌, ◌<◌, Bool, ◌≢◌, ◌↔◌, List, [], ◌∷◌, ◌++◌, length}
+use Rattle.std.specs.Prelude.{IsTrue, slice_index}
 use Rattle.hexboard.specs.Board.{Board, Connects, other}
 use Rattle.hexboard.specs.Rows.{Stone, Row}
 use Rattle.groups.specs.Forest.{Forest, parent, root}
-use Rattle.groups.specs.Stones.{Placement, stone, board_of, forest_of, AreLegal, KeepsGroups, IsBoardAround}
+use Rattle.groups.specs.Stones.{Placement, stone, board_of, forest_of, AreLegal, KeepsGroups}
+use Rattle.groups.specs.Stones.{IsBoardAround}
 
 -- both border bits
 abbrev pub Both : ℕ → Type 0

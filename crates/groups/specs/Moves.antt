@@ -1,6 +1,6 @@
 -- Boards and groups as functions of a list of moves: stones of the two sides in turn, side 1 first.
-use Rattle.std.specs.Prelude.{ℕ, ◌%◌, List, [], ◌∷◌, length, ◌==◌}
-use Rattle.hexboard.specs.Board.{pick, Board, other}
+use Rattle.std.specs.Prelude.{ℕ, ◌%◌, List, [], ◌∷◌, length, ◌==◌, if◌then◌else◌}
+use Rattle.hexboard.specs.Board.{Board, other}
 use Rattle.groups.specs.Forest.{Forest}
 use Rattle.groups.specs.Stones as stones
 use Rattle.groups.specs.Stones.{Placement, stone, AreLegal}
@@ -16,7 +16,7 @@ stones_of ms = in_turn 1 ms
 
 -- the side to move after these moves: side 1 after an even number of them
 abbrev pub turn_of : List ℕ → ℕ
-turn_of ms = pick (length ms % 2 == 0) 1 2
+turn_of ms = if length ms % 2 == 0 then 1 else 2
 
 -- what the moves lead to from the empty board n wide
 abbrev pub board_of : ℕ → List ℕ → Board

@@ -1,6 +1,7 @@
 -- Boards and groups as functions of a list of stones: stones of either side, in any order, laid one
 -- after the other on the empty board.
-use Rattle.std.specs.Prelude.{◌≡◌, ℕ, zero, suc, ◌*◌, Bool, true, ◌&&◌, ◌||◌, ◌⊎◌, List, [], ◌∷◌, ◌++◌, length, ◌==◌, nat_lt}
+use Rattle.std.specs.Prelude.{◌≡◌, ℕ, zero, suc, ◌*◌, Bool, true, ◌&&◌, ◌||◌, ◌⊎◌, List, [], ◌∷◌}
+use Rattle.std.specs.Prelude.{◌++◌, length, ◌==◌, nat_lt}
 use Rattle.std.specs.List.{fold}
 use Rattle.hexboard.specs.Board.{Board, at, all_cells, empty, put}
 use Rattle.groups.specs.Forest.{Forest, held, place}

@@ -17,8 +17,8 @@ use hexboard::{Neighbours, Side, Size};
 /// parent in its group, a later stone, or is the group's root: its last stone, which is its own
 /// parent. `parents` holds two bytes for each cell, low byte first. `borders` holds a byte for each
 /// cell, whose bits at a root say which borders the group touches: 1 for the first, 2 for the last.
-// Bits, since the bytes of lent memory are fixed. It is passed by value: a proof then knows what
-// its references lead to afterwards, which it does not for a `&mut` of such a struct.
+/// Bits, since the bytes of lent memory are fixed. It is passed by value: a proof then knows what
+/// its references lead to afterwards, which it does not for a `&mut` of such a struct.
 #[derive(Drop)]
 pub struct Groups<'a> {
     pub parents: &'a mut [u8],
@@ -26,9 +26,8 @@ pub struct Groups<'a> {
 }
 
 impl Groups<'_> {
-    /// Makes the memory that of a board without stones.
-    // Cell by cell, as in `lift`: a parent is a number of two bytes, which `set_word` writes by its
-    // place.
+    /// Makes the memory that of a board without stones. Cell by cell, as in `lift`: a parent is a
+    /// number of two bytes, which `set_word` writes by its place.
     pub fn clear(self, size: Size)
         requires parents_long { length self.parents.now ≡ size.n * size.n * 2 }
         requires borders_long { length self.borders.now ≡ size.n * size.n }

@@ -1,9 +1,9 @@
 -- Boards stay as they can be under a stone put on or taken off, and the empty board is one of them.
-use Rattle.std.proofs.Common.{◌≡◌, ℕ, zero, suc, ◌+◌, ◌*◌, ◌<◌, ◌≤◌, true, eqb, ◌⊎◌, List, [], ◌∷◌, length, get_or, drop, set, replicate, sym, refl, ap, ◌∙◌, inl, inr, arith, lit<}
+use Rattle.std.proofs.Common.{◌≡◌, ℕ, zero, suc, ◌+◌, ◌*◌, ◌<◌, ◌≤◌, true, eqb, ◌⊎◌, List, [], ◌∷◌, length, get_or, drop, set, replicate, sym, refl, ap, ◌∙◌, inl, inr, arith, lit<, if◌then◌else◌}
 use Rattle.std.proofs.lemmas.List.{length-set, set-set, set-get_or, at_drop_more, at_drop_all}
 use Rattle.std.proofs.lemmas.Bool.{and_parts, and_from, lt-ltb, ltb-true}
 use Rattle.std.proofs.lemmas.Bool.Decides.{nat_tests}
-use Rattle.hexboard.specs.Board.{Board, pick, at, all_cells, empty, empties, put, other}
+use Rattle.hexboard.specs.Board.{Board, at, all_cells, empty, empties, put, other}
 use Rattle.hexboard.specs.Promise.{good_cells, Good}
 use Rattle.hexboard.specs.Sides.{number}
 use Rattle.hexboard.specs.declared.side.Side.{Side}
@@ -91,7 +91,7 @@ pub set_back : (cs : List ℕ) (i s : ℕ) → get_or cs i 0 ≡ 0 → set (set 
 set_back cs i s e = set-set cs i s 0 ∙ ap (set cs i) (sym e) ∙ set-get_or cs i 0
 
 -- Counted from cell i on: cell i itself, and those from the next on.
-pub empties_from : (cs : List ℕ) (i : ℕ) → i < length cs → empties (drop i cs) ≡ pick (eqb (get_or cs i 0) 0) 1 0 + empties (drop (i + 1) cs)
+pub empties_from : (cs : List ℕ) (i : ℕ) → i < length cs → empties (drop i cs) ≡ (if eqb (get_or cs i 0) 0 then 1 else 0) + empties (drop (i + 1) cs)
 unfolding empties
 empties_from cs i h = at_drop_more empties cs i 0 h
 

@@ -1,6 +1,7 @@
 -- Games of laying stones: what a side can force, whatever the board looks like and whatever shows
 -- that a side has won. The board of six-sided cells is one of them. Definitions only.
-use Rattle.std.specs.Prelude.{◌≡◌, ℕ, ◌*◌, ◌<◌, Bool, true, ◌⊎◌, List, length, All, ◌==◌, if◌then◌else◌, slice_index, slice_set}
+use Rattle.std.specs.Prelude.{◌≡◌, ℕ, ◌*◌, ◌<◌, Bool, true, ◌⊎◌, List, length, All, ◌==◌}
+use Rattle.std.specs.Prelude.{if◌then◌else◌, slice_index, slice_set}
 use Rattle.hexboard.specs.Board.{is_way, empties, other}
 use Rattle.hexboard.specs.Geometry.{laid}
 

@@ -2,8 +2,8 @@
 use Rattle.std.specs.Prelude.{◌≡◌, ℕ, ◌<◌, Bool, true, length}
 use Rattle.hexboard.specs.Board.{Board, at, next_to}
 
--- A chain over places of one's own, each near the one before, from one place to another. It is stated for any nearness, since not
--- every board is a square of six-sided cells.
+-- A chain over places of one's own, each near the one before, from one place to another. It is
+-- stated for any nearness, since not every board is a square of six-sided cells.
 pub data Chain (near : ℕ → ℕ → Bool) (own : ℕ → Type 0) : ℕ → ℕ → Type 0 where
   here : {i j : ℕ} → own i → i ≡ j → Chain near own i j
   step : {i j k : ℕ} → own i → near i j ≡ true → Chain near own j k → Chain near own i k

@@ -1,7 +1,9 @@
 -- Shapes: boards as a graph with borders. A shape says how many cells there are, which are next to
 -- each other, and which borders each touches. Nothing more of a board matters for who has won.
 -- Definitions only.
-use Rattle.std.specs.Prelude.{◌≡◌, ℕ, ◌+◌, ◌*◌, ◌/◌, ◌%◌, ◌<◌, Bool, true, false, ◌&&◌, List, [], ◌∷◌, length, ℤ, pos, negsuc, ◌+ℤ◌, Some, None, Option, ◌==◌, nat_lt, if◌then◌else◌, slice_index}
+use Rattle.std.specs.Prelude.{◌≡◌, ℕ, ◌+◌, ◌*◌, ◌/◌, ◌%◌, ◌<◌, ℤ, pos, negsuc, ◌+ℤ◌, nat_lt, ◌==◌}
+use Rattle.std.specs.Prelude.{Bool, true, false, ◌&&◌, if◌then◌else◌, Some, None, Option}
+use Rattle.std.specs.Prelude.{List, [], ◌∷◌, length, slice_index}
 use Rattle.std.specs.List.{list_any}
 use Rattle.hexboard.specs.Geometry.{step_to, given}
 use Rattle.hexboard.specs.Laying.{Rules}
@@ -43,7 +45,8 @@ at_last g s i = g.borders s i / 2 % 2 == 1
 abbrev pub has_stone : ℕ → List ℕ → ℕ → Bool
 has_stone s cells i = nat_lt i (length cells) && slice_index cells i == s
 
--- the cells js lead on from cell i: each is one's own and next to the one before, and the last is last
+-- the cells js lead on from cell i: each is one's own and next to the one before, and with the last
+-- the end is reached
 unfoldable pub leads_on : (ℕ → ℕ → Bool) → (ℕ → Bool) → (ℕ → Bool) → ℕ → List ℕ → Bool
 leads_on next own last i [] = last i
 leads_on next own last i (j ∷ js) = (next i j && own j) && leads_on next own last j js
@@ -62,8 +65,8 @@ is_way g s cells w = leads (next_to g) (has_stone s cells) (at_first g s) (at_la
 abbrev pub shape_rules : Shape → Rules
 shape_rules g = record { count = g.count; shows = λ s cells w. is_way g s cells w }
 
--- A board of six-sided cells w wide and t tall. Its cells are numbered by rows, so that cell i lies in
--- row i / w and column i % w.
+-- A board of six-sided cells w wide and t tall. Its cells are numbered by rows, so that cell i lies
+-- in row i / w and column i % w.
 
 -- the cell in row r and column c, where the board has one; a step can lead before the first
 abbrev pub cell_in : ℕ → ℕ → ℤ → ℤ → Option ℕ

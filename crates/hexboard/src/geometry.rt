@@ -1,8 +1,9 @@
 // Which cells are next to each other, and which borders of a side a cell touches.
-ghost use Rattle.std.specs.Prelude.{◌≡◌, ℕ, ◌/◌, ◌%◌, ◌<◌, ◌↔◌, IfSome, Some, Decides, Contains};
+ghost use Rattle.std.specs.Prelude.{◌≡◌, ℕ, ◌/◌, ◌%◌, ◌<◌, ◌↔◌, IfSome, Some, IsTrue, Contains};
 ghost use Rattle.std.specs.Iterator.{YieldsFirst, item_count};
 ghost use Rattle.hexboard.specs.Board.{next_to, begins, ends};
-ghost use Rattle.hexboard.specs.Geometry.{cell_of, step_to, neighbour_of, neighbours, Beside, AllNeighbours, touch};
+ghost use Rattle.hexboard.specs.Geometry.{cell_of, step_to, neighbour_of, neighbours, Beside};
+ghost use Rattle.hexboard.specs.Geometry.{AllNeighbours, touch};
 ghost use Rattle.hexboard.specs.Sides.{number};
 
 use crate::side::Side;
@@ -10,9 +11,10 @@ use crate::size::Size;
 use std::marker::Model;
 use std::ops::Range;
 
-// The step toward the k-th neighbour of a cell, as rows down and columns to the right: to the right, to the left, below, above,
-// up and to the right, down and to the left. There are six. They are numbers and no enum: a cell's neighbours are counted through, and
-// what is promised of one is promised for each number.
+// The step toward the k-th neighbour of a cell, as rows down and columns to the right: to the
+// right, to the left, below, above, up and to the right, down and to the left. There are six. They
+// are numbers and no enum: a cell's neighbours are counted through, and what is promised of one is
+// promised for each number.
 fn step(k: u8) -> Option<(i16, i16)>
     ensures { result ≡ step_to k }
 {
@@ -40,7 +42,8 @@ fn cell_on(size: Size, row: i16, column: i16) -> Option<u16>
     Some(row * n + column)
 }
 
-// The k-th neighbour of a cell. None where the board ends there, for a cell that is not on the board, and from k = 6 on.
+/// The k-th neighbour of a cell. None where the board ends there, for a cell that is not on the
+/// board, and from k = 6 on.
 pub fn neighbour(size: Size, cell: u16, k: u8) -> Option<u16>
     ensures value { result ≡ neighbour_of size.n cell k }
     ensures beside { IfSome result (Beside size.n cell) }
@@ -54,7 +57,8 @@ pub fn neighbour(size: Size, cell: u16, k: u8) -> Option<u16>
     cell_on(size, row, column)
 }
 
-// The cells that are next to a cell, one after the other in the order of `neighbour`: seen as the list of those that are left.
+/// The cells that are next to a cell, one after the other in the order of `neighbour`: seen as the
+/// list of those that are left.
 #[derive(Drop)]
 pub struct Neighbours {
     size: Size,
@@ -68,11 +72,12 @@ impl Model for Neighbours {
 
     ghost Value = { List ℕ };
 
-    ghost view = { λ it. given (neighbour_of it.size.n it.cell) it.directions.start (it.directions.end - it.directions.start) };
+    ghost view = { λ it. given (neighbour_of it.size.n it.cell) it.directions.start
+        (it.directions.end - it.directions.start) };
 }
 
 impl Neighbours {
-    // The neighbours of a cell; none of a cell that is not on the board.
+    /// The neighbours of a cell; none of a cell that is not on the board.
     pub fn of(size: Size, cell: u16) -> Neighbours
         ensures value { result ≡ neighbours size.n cell }
         ensures beside { (j : ℕ) → Beside size.n cell j ↔ Contains result j }
@@ -98,7 +103,8 @@ impl Iterator for Neighbours {
     }
 }
 
-// How many directions a neighbour can lie in. The neighbours for k below this are all the cells that are next to a cell.
+/// How many directions a neighbour can lie in. The neighbours for k below this are all the cells
+/// that are next to a cell.
 pub fn directions() -> u8
     ensures value { result ≡ 6 }
     ensures all { AllNeighbours result }
@@ -108,12 +114,13 @@ pub fn directions() -> u8
     6
 }
 
-// The borders of a side that a cell touches, as two bits: 1 for its first border, 2 for its last. They stay bits and become no
-// struct of two flags, since they are kept, and joined by `|`, as a byte of the game's memory.
+/// The borders of a side that a cell touches, as two bits: 1 for its first border, 2 for its last.
+/// They stay bits and become no struct of two flags, since they are kept, and joined by `|`, as a
+/// byte of the game's memory.
 pub fn borders(size: Size, side: Side, cell: u16) -> u8
     ensures value { result ≡ touch size.n (number side) cell }
-    ensures first { Decides (begins size.n (number side) cell) (result % 2 ≡ 1) }
-    ensures last { Decides (ends size.n (number side) cell) (result / 2 ≡ 1) }
+    ensures first { IsTrue (begins size.n (number side) cell) ↔ (result % 2 ≡ 1) }
+    ensures last { IsTrue (ends size.n (number side) cell) ↔ (result / 2 ≡ 1) }
     ensures few { result < 4 }
 {
     let n = size.width();

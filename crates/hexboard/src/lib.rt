@@ -1,4 +1,5 @@
-// Boards of six-sided cells, in code: the sides, the sizes a board can have, the geometry, stones on lent bytes, and numbers of two bytes.
+// Boards of six-sided cells, in code: the sides, the sizes a board can have, the geometry, stones
+// on lent bytes, and numbers of two bytes.
 #![tactic(auto)]
 
 mod geometry;

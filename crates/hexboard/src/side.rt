@@ -6,7 +6,8 @@ ghost use Rattle.hexboard.specs.Sides.{number, side_numbered};
 use std::error::Error;
 use std::fmt;
 
-// Side 1 connects the top row and the bottom row and moves first; side 2 connects the left column and the right column.
+/// Side 1 connects the top row and the bottom row and moves first; side 2 connects the left column
+/// and the right column.
 #[derive(Clone, Copy, PartialEq, Eq, Debug)]
 pub enum Side {
     One,
@@ -14,7 +15,7 @@ pub enum Side {
 }
 
 impl Side {
-    // The side that plays against this one.
+    /// The side that plays against this one.
     pub fn opponent(self) -> Side
         ensures { number result ≡ other (number self) }
     {
@@ -37,7 +38,8 @@ impl From<Side> for u8 {
     }
 }
 
-// A number that no side has. Its line and its trait are written by hand: this crate stands on std alone.
+/// A number that no side has. Its line and its trait are written by hand: this crate stands on std
+/// alone.
 #[derive(Clone, Copy, PartialEq, Eq, Debug)]
 pub struct NoSide(pub u8);
 

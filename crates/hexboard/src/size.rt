@@ -1,7 +1,7 @@
 // The sizes that a board can have at the desk.
 ghost use Rattle.std.specs.Prelude.{◌≡◌, ℕ, ◌*◌, ◌<◌, ◌≤◌, MatchOption};
 
-// A board is n wide and n tall, n from 1 to 19.
+/// A board is n wide and n tall, n from 1 to 19.
 #[derive(Clone, Copy, PartialEq, Eq, Debug)]
 pub struct Size {
     n: u16,
@@ -10,9 +10,11 @@ pub struct Size {
 }
 
 impl Size {
+    /// How many cells the largest board has in a row.
     pub const MAX: u16 = 19;
 
-    // The size, or none if n is out of range. This is `new`, and no `TryFrom`, since that is std's name for it, as in `NonZero::new`.
+    /// The size, or none if n is out of range. This is `new`, and no `TryFrom`, since that is std's
+    /// name for it, as in `NonZero::new`.
     pub fn new(n: u16) -> Option<Size>
         ensures { MatchOption result ((0 < n → n ≤ 19 → ⊥)) (λ s. s.n ≡ n) }
     {
@@ -22,7 +24,7 @@ impl Size {
         Some(Size { n })
     }
 
-    // How many cells a row has, and a column.
+    /// How many cells a row has, and a column.
     pub fn width(self) -> u16
         ensures value { result ≡ self.n }
         ensures some { 0 < result }
@@ -31,7 +33,7 @@ impl Size {
         self.n
     }
 
-    // How many cells the board has.
+    /// How many cells the board has.
     pub fn cells(self) -> u16
         ensures value { result ≡ self.n * self.n }
         ensures some { 0 < result }

@@ -1,4 +1,5 @@
-// Stones on a board in lent bytes, one byte to a cell: 0 for an empty cell, else the number of the side whose stone stands there.
+// Stones on a board in lent bytes, one byte to a cell: 0 for an empty cell, else the number of the
+// side whose stone stands there.
 ghost use Rattle.std.specs.Prelude.{◌≡◌, ℕ, ◌+◌, ◌*◌, ◌<◌, length, Ok, slice_set};
 ghost use Rattle.hexboard.specs.Board.{empty, empties, all_cells};
 ghost use Rattle.hexboard.specs.Geometry.{laid};
@@ -8,14 +9,15 @@ ghost use Rattle.hexboard.specs.Stones.{stone_at, placing, placed};
 
 use crate::side::Side;
 
-// Why a stone was not put on a cell.
+/// Why a stone was not put on a cell.
 #[derive(Clone, Copy, PartialEq, Eq, Debug)]
 pub enum Unplaced {
     NoCell,
     Taken,
 }
 
-// The side whose stone stands on a cell. A byte that is neither 1 nor 2 is no stone, and a cell that is not there has none.
+/// The side whose stone stands on a cell. A byte that is neither 1 nor 2 is no stone, and a cell
+/// that is not there has none.
 pub fn stone(cells: &[u8], cell: u16) -> Option<Side>
     ensures value { result ≡ stone_at cells.now cell }
 {
@@ -23,7 +25,8 @@ pub fn stone(cells: &[u8], cell: u16) -> Option<Side>
     Side::try_from(*byte).ok()
 }
 
-// Puts a stone on an empty cell. A cell that is not there or not empty is refused, and then nothing changes.
+/// Puts a stone on an empty cell. A cell that is not there or not empty is refused, and then
+/// nothing changes.
 pub fn place(cells: &mut [u8], side: Side, cell: u16) -> Result<(), Unplaced>
     ensures value { result ≡ placing cells.old cell }
     ensures after { cells.new ≡ placed cells.old (number side) cell }
@@ -31,7 +34,8 @@ pub fn place(cells: &mut [u8], side: Side, cell: u16) -> Result<(), Unplaced>
     ensures fewer { result ≡ Ok tt → empties cells.new + 1 ≡ empties cells.old }
     ensures back { result ≡ Ok tt → slice_set cells.new cell 0 ≡ cells.old }
 {
-    // `get`, and not `get_mut`: of a slice's elements a proof knows nothing once `get_mut` has lent one.
+    // `get`, and not `get_mut`: of a slice's elements a proof knows nothing once `get_mut` has lent
+    // one.
     let index = usize::from(cell);
     match cells.get(index) {
         None => Err(Unplaced::NoCell),
@@ -43,7 +47,7 @@ pub fn place(cells: &mut [u8], side: Side, cell: u16) -> Result<(), Unplaced>
     }
 }
 
-// Takes off what stands on a cell, and says which stone that was.
+/// Takes off what stands on a cell, and says which stone that was.
 pub fn lift(cells: &mut [u8], cell: u16) -> Option<Side>
     ensures value { result ≡ stone_at cells.old cell }
     ensures after { cells.new ≡ slice_set cells.old cell 0 }
@@ -55,7 +59,7 @@ pub fn lift(cells: &mut [u8], cell: u16) -> Option<Side>
     Side::try_from(byte).ok()
 }
 
-// Takes all stones off.
+/// Takes all stones off.
 pub fn clear(cells: &mut [u8])
     ensures after { cells.new ≡ all_cells (length cells.old) }
     ensures board { (n : ℕ) → length cells.old ≡ n * n → laid n cells.new ≡ empty n }

@@ -5,7 +5,7 @@ ghost use Rattle.hexboard.specs.Words.{words, word_of, room_at};
 
 use std::marker::Model;
 
-// The number at a place, where there is one.
+/// The number at a place, where there is one.
 pub fn word(bytes: &[u8], place: u16) -> Option<u16>
     ensures { result ≡ word_of bytes.now place }
 {
@@ -14,7 +14,7 @@ pub fn word(bytes: &[u8], place: u16) -> Option<u16>
     Some(u16::from_le_bytes(*pair))
 }
 
-// The numbers, one after the other: seen as the list of those that are left.
+/// The numbers, one after the other: seen as the list of those that are left.
 #[derive(Drop)]
 pub struct Words<'a> {
     rest: &'a [u8],
@@ -30,7 +30,7 @@ impl<'a> Model for Words<'a> {
 }
 
 impl Words<'_> {
-    // The numbers that bytes give. A byte that is left over gives none.
+    /// The numbers that bytes give. A byte that is left over gives none.
     pub fn of(bytes: &[u8]) -> Words<'_>
         ensures { result ≡ words bytes.now }
     {
@@ -52,8 +52,8 @@ impl Iterator for Words<'_> {
     }
 }
 
-// Writes the number at a place, if there is one; if not, nothing changes. By its bytes, and not as a pair of them: of what
-// `as_chunks_mut` lends nothing is known afterwards.
+/// Writes the number at a place, if there is one; if not, nothing changes. By its bytes, and not as
+/// a pair of them: of what `as_chunks_mut` lends nothing is known afterwards.
 pub fn set_word(bytes: &mut [u8], place: u16, value: u16) -> Option<()>
     ensures told { result ≡ room_at bytes.old place }
     ensures refused { result ≡ None → bytes.new ≡ bytes.old }

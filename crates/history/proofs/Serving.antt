@@ -1,9 +1,9 @@
 -- Each answer to a move and to a take-back is the right one by the rules.
-use Rattle.std.proofs.Common.{◌≡◌, ℕ, ◌+◌, ◌*◌, ◌%◌, ◌<◌, ◌≤◌, Bool, true, false, eqb, ◌≢◌, ◌⊎◌, List, [], ◌∷◌, ◌++◌, length, get_or, take, set, sym, refl, ap, ◌∙◌, subst, arith}
+use Rattle.std.proofs.Common.{◌≡◌, ℕ, ◌+◌, ◌*◌, ◌%◌, ◌<◌, ◌≤◌, Bool, true, false, eqb, ◌≢◌, ◌⊎◌, List, [], ◌∷◌, ◌++◌, length, get_or, take, set, sym, refl, ap, ◌∙◌, subst, arith, if◌then◌else◌}
 use Rattle.std.specs.Bool.{then_some}
 use Rattle.std.proofs.lemmas.List.{length_push, take_more_set}
 use Rattle.std.proofs.lemmas.Bool.Decides.{nat_tests}
-use Rattle.hexboard.specs.Board.{pick, at, is_way, Connects}
+use Rattle.hexboard.specs.Board.{at, is_way, Connects}
 use Rattle.hexboard.specs.Geometry.{laid}
 use Rattle.hexboard.specs.Games as games
 use Rattle.hexboard.specs.Sides.{number}
@@ -29,7 +29,7 @@ pub some_side : (side : Side) → number side ≢ 0
 some_side side = omega (arith, number_few side)
 
 -- a side that has won by a test
-pub won_then : (t : Bool) (side : Side) → won_by (then_some t side) ≡ pick t (number side) 0
+pub won_then : (t : Bool) (side : Side) → won_by (then_some t side) ≡ (if t then number side else 0)
 won_then true side = refl
 won_then false side = refl
 
@@ -96,8 +96,8 @@ module _ (g : Game) (m : Memory) (held-now : Holds g m) (x : ℕ) where
   nobody e = sym held-now.winner ∙ e
 
   -- the side to move, by the number of moves
-  pub mover : turn_of ms ≡ pick (eqb (g.count % 2) 0) 1 2
-  mover = ap (λ k. pick (eqb (k % 2) 0) 1 2) held-now.all
+  pub mover : turn_of ms ≡ (if eqb (g.count % 2) 0 then 1 else 2)
+  mover = ap (λ k. if eqb (k % 2) 0 then 1 else 2) held-now.all
 
   -- there is room in the log for one more
   pub room_in : x < length m.stones → get_or m.stones x 0 ≡ 0 → g.count < n * n
@@ -107,7 +107,7 @@ module _ (g : Game) (m : Memory) (held-now : Holds g m) (x : ℕ) where
       x < length m.stones → won_by g.winner ≡ 0 → get_or m.stones x 0 ≡ 0 →
       k.stones ≡ set m.stones x (turn_of ms) → words k.log ≡ set (words m.log) g.count x → length k.log ≡ length m.log →
       held k.parents k.borders ≡ forest_of n (ms ++ x ∷ []) → length k.parents ≡ length m.parents →
-      won_by h.winner ≡ pick (eqb (get_or k.borders x 0 % 4) 3) (turn_of ms) 0 →
+      won_by h.winner ≡ (if eqb (get_or k.borders x 0 % 4) 3 then turn_of ms else 0) →
       Served g m (games.moves x) (games.number g.count) h k
   served_made h k size count on none bare stones wrote log-same joined parents-same won =
       let is = cell_free n ms m.stones x played_in stones_in on bare in
@@ -124,7 +124,7 @@ module _ (g : Game) (m : Memory) (held-now : Holds g m) (x : ℕ) where
         holds =
             holds_by h k n (ms ++ x ∷ []) (ap (λ z. z.n) size) moves (length_push ms x ∙ (ap (λ j. j + 1) held-now.all ∙ sym count)) now-played
             (subst (λ (cs : List ℕ). Kept n (ms ++ x ∷ []) cs k.log k.parents k.borders) (sym stones) more)
-            (won ∙ (ap (λ f. pick (eqb (get_or f.borders x 0 % 4) 3) (turn_of ms) 0) joined ∙ sym (winner_push n ms x now-played)));
+            (won ∙ (ap (λ f. if eqb (get_or f.borders x 0 % 4) 3 then turn_of ms else 0) joined ∙ sym (winner_push n ms x now-played)));
         same_size = size;
       }
 

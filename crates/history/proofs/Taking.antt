@@ -1,8 +1,8 @@
 -- A move is taken back: what the game and the memory are afterwards, and that this is right. And a new game.
-use Rattle.std.proofs.Common.{◌≡◌, ℕ, ◌+◌, ◌-◌, ◌*◌, ◌/◌, ◌<◌, true, List, [], ◌∷◌, ◌++◌, length, get_or, take, set, replicate, is_some, Some, None, Option, sym, refl, ap, ◌∙◌, subst, ⊎_elim, arith}
+use Rattle.std.proofs.Common.{◌≡◌, ℕ, ◌+◌, ◌-◌, ◌*◌, ◌/◌, ◌<◌, true, List, [], ◌∷◌, ◌++◌, length, get_or, take, set, replicate, is_some, Some, None, Option, sym, refl, ap, ◌∙◌, subst, ⊎_elim, arith, if◌then◌else◌}
 use Rattle.std.proofs.lemmas.List.{length_push, length-replicate, length-take-le, take_more, take-set}
 use Rattle.std.proofs.lemmas.Bool.{cases_eq, lt-ltb}
-use Rattle.hexboard.specs.Board.{pick, all_cells}
+use Rattle.hexboard.specs.Board.{all_cells}
 use Rattle.hexboard.specs.Games as games
 use Rattle.hexboard.specs.Words.{words, word_of}
 use Rattle.hexboard.proofs.Boards.{all_cells_replicate}
@@ -60,7 +60,7 @@ module _ (g : Game) (m : Memory) (now-held : Holds g m) (last : ℕ) (one : last
 
   -- the last move is there to be read
   last_word : word_of m.log last ≡ Some x
-  last_word = ap (λ t. pick {A = Option ℕ} t (Some x) None) (lt-ltb last (length (words m.log)) in_log)
+  last_word = ap (λ t. if t then Some x else None) (lt-ltb last (length (words m.log)) in_log)
 
   pub last_there : (o : Option ℕ) → o ≡ word_of m.log last → is_some o ≡ true
   last_there o e = ap is_some (e ∙ last_word)

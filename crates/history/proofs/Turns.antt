@@ -1,9 +1,9 @@
 -- One move more, and one move back: what becomes of the game, its board and who has won.
-use Rattle.std.proofs.Common.{◌≡◌, ℕ, ◌%◌, ◌<◌, true, false, eqb, ◌≢◌, ◌⊎◌, ◌↔◌, List, [], ◌∷◌, ◌++◌, length, get_or, sym, refl, ap, ◌∙◌, subst, inl, inr, ⊎_elim, arith}
+use Rattle.std.proofs.Common.{◌≡◌, ℕ, ◌%◌, ◌<◌, true, false, eqb, ◌≢◌, ◌⊎◌, ◌↔◌, List, [], ◌∷◌, ◌++◌, length, get_or, sym, refl, ap, ◌∙◌, subst, inl, inr, ⊎_elim, arith, if◌then◌else◌}
 use Rattle.std.proofs.lemmas.List.{length_push, take_at}
 use Rattle.std.proofs.lemmas.Bool.{cases_eq}
 use Rattle.std.proofs.lemmas.Bool.Decides.{nat_tests}
-use Rattle.hexboard.specs.Board.{pick, Connects, put, other}
+use Rattle.hexboard.specs.Board.{Connects, put, other}
 use Rattle.hexboard.specs.Games as games
 use Rattle.hexboard.specs.Geometry.{laid}
 use Rattle.hexboard.proofs.Boards.{set_back}
@@ -34,7 +34,7 @@ pub game_push : (n : ℕ) (ms : List ℕ) (x : ℕ) → is_free (board_of n ms) 
 unfolding games.after
 game_push n ms x is =
     let made : games.Game = record { board = put (board_of n ms) (turn_of ms) x; turn = other (turn_of ms); moves = ms ++ x ∷ [] } in
-    ap (λ t. pick {A = games.Game} t made (game_of n ms)) is ∙
+    ap (λ t. if t then made else game_of n ms) is ∙
     λ i. record { board = sym (board_push n ms x) i; turn = sym (turn_push ms x) i; moves = ms ++ x ∷ [] }
 
 -- the side to move comes back after two moves
@@ -57,7 +57,7 @@ game_back n ms x legal =
     let some : eqb (length (ms ++ x ∷ [])) 0 ≡ false = grind (arith, nat_tests) in
     let all = ms ++ x ∷ [] in
     let taken : games.Game = record { board = put (board_of n all) 0 (games.last_of 0 all); turn = other (turn_of all); moves = games.but_last all } in
-    ap (λ t. pick {A = games.Game} t (game_of n all) taken) some ∙
+    ap (λ t. if t then game_of n all else taken) some ∙
     λ i. record {
       board = (ap (put (board_of n all) 0) (last_push 0 ms x) ∙ board_back n ms x is) i;
       turn = (ap other (turn_push ms x) ∙ other_other (turn_of ms) (turn_side ms)) i;
@@ -94,15 +94,15 @@ module _ (n : ℕ) (ms : List ℕ) (x : ℕ) (h : Played n (ms ++ x ∷ [])) whe
       (sym (stones_push ms x))
       (one_byte_decides n (stones_of ms) (stone mover x) (subst (AreLegal n) (stones_push ms x) h.legal) open_before)
 
-  pub winner_push : winner_of n (ms ++ x ∷ []) ≡ pick (eqb (byte % 4) 3) mover 0
+  pub winner_push : winner_of n (ms ++ x ∷ []) ≡ (if eqb (byte % 4) 3 then mover else 0)
   winner_push =
       let long = length_push ms x in
       let some : eqb (length (ms ++ x ∷ [])) 0 ≡ false = grind (arith, nat_tests) in
       let turn : other (turn_of (ms ++ x ∷ [])) ≡ mover =
       ap other (turn_push ms x) ∙ other_other mover mover_side in
-      ap (λ t. pick t 0 (pick (eqb (get_or (forest_of n (ms ++ x ∷ [])).borders (games.last_of 0 (ms ++ x ∷ [])) 0 % 4) 3) (other (turn_of (ms ++ x ∷ []))) 0)) some ∙
-      (ap (λ i. pick (eqb (get_or (forest_of n (ms ++ x ∷ [])).borders i 0 % 4) 3) (other (turn_of (ms ++ x ∷ []))) 0) (last_push 0 ms x) ∙
-      ap (λ s. pick (eqb (byte % 4) 3) s 0) turn)
+      ap (λ t. if t then 0 else if eqb (get_or (forest_of n (ms ++ x ∷ [])).borders (games.last_of 0 (ms ++ x ∷ [])) 0 % 4) 3 then other (turn_of (ms ++ x ∷ [])) else 0) some ∙
+      (ap (λ i. if eqb (get_or (forest_of n (ms ++ x ∷ [])).borders i 0 % 4) 3 then other (turn_of (ms ++ x ∷ [])) else 0) (last_push 0 ms x) ∙
+      ap (λ s. if eqb (byte % 4) 3 then s else 0) turn)
 
   pub pushed_open : winner_of n (ms ++ x ∷ []) ≡ 0 → Open (board_of n (ms ++ x ∷ []))
   pushed_open e =

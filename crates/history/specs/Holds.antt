@@ -1,5 +1,6 @@
 -- How a game by value and the lent memory stand for a game of the rules.
-use Rattle.std.specs.Prelude.{◌≡◌, ℕ, ◌*◌, List, length, take, Some, None, Option, Result, MatchResult}
+use Rattle.std.specs.Prelude.{◌≡◌, ℕ, ◌*◌, List, length, take, Some, None, Option, Result}
+use Rattle.std.specs.Prelude.{MatchResult}
 use Rattle.hexboard.specs.Games as games
 use Rattle.hexboard.specs.Sides.{number}
 use Rattle.hexboard.specs.Words.{words}
@@ -22,7 +23,13 @@ pub record Memory : Type 0 where
   pub borders : List ℕ
 
 abbrev pub lent : List ℕ → List ℕ → List ℕ → List ℕ → Memory
-lent stones log parents borders = record { stones = stones; log = log; parents = parents; borders = borders }
+lent stones log parents borders = record {
+  stones = stones;
+  log = log;
+  parents = parents;
+  borders =
+      borders;
+}
 
 -- parts as long as a board of so many cells needs
 pub record Long (cells : ℕ) (m : Memory) : Type 0 where
@@ -39,24 +46,31 @@ moves_in g m = take g.count (words m.log)
 abbrev pub formal : Game → Memory → games.Game
 formal g m = game_of g.size.n (moves_in g m)
 
--- The memory holds the game: it is the image of the moves in the log, which can be made, and the game by value agrees with them.
+-- The memory holds the game: it is the image of the moves in the log, which can be made, and the
+-- game by value agrees with them.
 pub record Holds (g : Game) (m : Memory) : Type 0 where
   pub all : length (moves_in g m) ≡ g.count
   pub played : Played g.size.n (moves_in g m)
   pub kept : Kept g.size.n (moves_in g m) m.stones m.log m.parents m.borders
   pub winner : won_by g.winner ≡ winner_of g.size.n (moves_in g m)
 
--- A call is served: the answer is right for the games before and after, and the memory holds the game after it.
-pub record Served (g : Game) (m : Memory) (call : games.Call) (answer : games.Answer) (h : Game) (k : Memory) : Type 0 where
+-- A call is served: the answer is right for the games before and after, and the memory holds the
+-- game after it.
+pub record Served (g : Game) (m : Memory) (call : games.Call) (answer : games.Answer) (h : Game)
+    (k : Memory) : Type 0 where
   pub right : games.Right (formal g m) call answer (formal h k)
   pub holds : Holds h k
   pub same_size : h.size ≡ g.size
 
 -- It is refused: that is the right answer, and nothing has changed.
-pub record TurnedAway (g : Game) (m : Memory) (call : games.Call) (why : Refusal) (k : Memory) : Type 0 where
-  pub right : games.Right (formal g m) call (games.refused (reason why).number (reason why).place) (formal g m)
+pub record TurnedAway (g : Game) (m : Memory) (call : games.Call) (why : Refusal)
+    (k : Memory) : Type 0 where
+  pub right : games.Right (formal g m) call (games.refused (reason why).number (reason why).place)
+      (formal g m)
   pub unchanged : k ≡ m
 
--- one or the other; what is answered is a number, told of the game afterwards; for a move it is how many were made before it
+-- one or the other; what is answered is a number, told of the game afterwards; for a move it is how
+-- many were made before it
 abbrev pub Settled : Game → Memory → games.Call → (Game → ℕ) → Memory → Result Game Refusal → Type 0
-Settled g m call told k r = MatchResult r (λ h. Served g m call (games.number (told h)) h k) (λ why. TurnedAway g m call why k)
+Settled g m call told k r = MatchResult r (λ h. Served g m call
+    (games.number (told h)) h k) (λ why. TurnedAway g m call why k)

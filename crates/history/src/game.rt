@@ -3,7 +3,7 @@ ghost use Rattle.std.specs.Prelude.{◌≡◌, ℕ, ◌*◌, ◌≤◌};
 
 use hexboard::{Side, Size};
 
-// How large the board is, how many moves were made, and who has won.
+/// How large the board is, how many moves were made, and who has won.
 #[derive(Clone, Copy)]
 pub struct Game {
     pub(crate) size: Size,

@@ -1,8 +1,8 @@
-// Moves made and taken back. The lent memory is a function of the list of moves, byte for byte.
-// Its four parts are passed one by one. As one struct by value, as the groups' two are, they were tried: what the functions here
-// promise can then be proved, but not what the desk promises that lends its vectors so: a proof does not know afterwards what they hold.
-ghost use Rattle.std.specs.Prelude.{◌≡◌, ◌*◌, ◌%◌, ◌==◌};
-ghost use Rattle.hexboard.specs.Board.{pick};
+// Moves made and taken back. The lent memory is a function of the list of moves, byte for byte. Its
+// four parts are passed one by one. As one struct by value, as the groups' two are, they were
+// tried: what the functions here promise can then be proved, but not what the desk promises that
+// lends its vectors so: a proof does not know afterwards what they hold.
+ghost use Rattle.std.specs.Prelude.{◌≡◌, ◌*◌, ◌%◌, ◌==◌, if◌then◌else◌};
 ghost use Rattle.hexboard.specs.Games as games;
 ghost use Rattle.hexboard.specs.Sides.{number};
 ghost use Rattle.history.specs.Holds.{won_by, Long, lent, formal, Holds, Settled};
@@ -12,7 +12,8 @@ use groups::Groups;
 use hexboard::{Side, Size};
 use wire::Refusal;
 
-// Puts a stone of the side to move on a cell, unless there is no such cell, the game is over, or the cell is not empty.
+/// Puts a stone of the side to move on a cell, unless there is no such cell, the game is over, or
+/// the cell is not empty.
 pub fn make_move(
     game: Game,
     cell: u16,
@@ -22,13 +23,16 @@ pub fn make_move(
     borders: &mut [u8],
 ) -> Result<Game, Refusal>
     requires { Holds game (lent stones.old log.old parents.old borders.old) }
-    ensures { Settled game (lent stones.old log.old parents.old borders.old) (games.moves cell) (λ _. game.count) (lent stones.new log.new parents.new borders.new) result }
+    ensures { Settled game (lent stones.old log.old parents.old borders.old) (games.moves cell)
+        (λ _. game.count) (lent stones.new log.new parents.new borders.new) result }
 {
-    // A `let .. else`, as the checks behind it are: so all refuse alike, and this one hands on what stands there.
+    // A `let .. else`, as the checks behind it are: so all refuse alike, and this one hands on what
+    // stands there.
     let Some(&standing) = stones.get(usize::from(cell)) else {
         return Err(Refusal::NoCell);
     };
-    // This check and the next have no value to hand on; they are `let .. else` so that all three refuse in the same form.
+    // This check and the next have no value to hand on; they are `let .. else` so that all three
+    // refuse in the same form.
     let None = game.winner else {
         return Err(Refusal::Over);
     };
@@ -48,7 +52,7 @@ pub fn make_move(
     })
 }
 
-// Takes the last move back, unless there is none.
+/// Takes the last move back, unless there is none.
 pub fn take_back(
     game: Game,
     stones: &mut [u8],
@@ -57,9 +61,11 @@ pub fn take_back(
     borders: &mut [u8],
 ) -> Result<Game, Refusal>
     requires { Holds game (lent stones.old log.old parents.old borders.old) }
-    ensures { Settled game (lent stones.old log.old parents.old borders.old) games.back (λ h. h.count) (lent stones.new log.new parents.new borders.new) result }
+    ensures { Settled game (lent stones.old log.old parents.old borders.old) games.back
+        (λ h. h.count) (lent stones.new log.new parents.new borders.new) result }
 {
-    // A `let .. else`, as the checks of a move are: it refuses as they do, and hands on the last move's number.
+    // A `let .. else`, as the checks of a move are: it refuses as they do, and hands on the last
+    // move's number.
     let Some(last) = game.count.checked_sub(1) else {
         return Err(Refusal::NoMove);
     };
@@ -74,7 +80,8 @@ pub fn take_back(
     })
 }
 
-// A new game in memory that holds anything. The parts have a byte for each cell, and two where they hold numbers.
+/// A new game in memory that holds anything. The parts have a byte for each cell, and two where
+/// they hold numbers.
 pub fn start(
     size: Size,
     stones: &mut [u8],
@@ -84,7 +91,8 @@ pub fn start(
 ) -> Game
     requires { Long (size.n * size.n) (lent stones.old log.old parents.old borders.old) }
     ensures holds { Holds result (lent stones.new log.new parents.new borders.new) }
-    ensures new { formal result (lent stones.new log.new parents.new borders.new) ≡ games.new_game size.n }
+    ensures new { formal result
+        (lent stones.new log.new parents.new borders.new) ≡ games.new_game size.n }
     ensures size { result.size ≡ size }
     ensures fresh { (result.count ≡ 0) × (won_by result.winner ≡ 0) }
 {
@@ -95,7 +103,7 @@ pub fn start(
 }
 
 impl Game {
-    // A game without moves. Memory that was made ready for the size holds it.
+    /// A game without moves. Memory that was made ready for the size holds it.
     pub fn new(size: Size) -> Game
         ensures size { result.size ≡ size }
         ensures count { result.count ≡ 0 }
@@ -108,30 +116,30 @@ impl Game {
         }
     }
 
-    // How large the board is.
+    /// How large the board is.
     pub fn size(self) -> Size
         ensures { result ≡ self.size }
     {
         self.size
     }
 
-    // How many moves were made.
+    /// How many moves were made.
     pub fn count(self) -> u16
         ensures { result ≡ self.count }
     {
         self.count
     }
 
-    // Who has won.
+    /// Who has won.
     pub fn winner(self) -> Option<Side>
         ensures { result ≡ self.winner }
     {
         self.winner
     }
 
-    // The side that moves next: side 1 after an even number of moves.
+    /// The side that moves next: side 1 after an even number of moves.
     pub fn turn(self) -> Side
-        ensures { number result ≡ pick (self.count % 2 == 0) 1 2 }
+        ensures { number result ≡ (if self.count % 2 == 0 then 1 else 2) }
     {
         if self.count % 2 == 0 {
             Side::One

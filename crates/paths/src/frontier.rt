@@ -1,14 +1,18 @@
-// What a search knows in lent memory, two bytes a cell: which cells it has reached, in which order, and from where.
-ghost use Rattle.std.specs.Prelude.{◌≡◌, ℕ, ◌+◌, ◌^◌, ◌<◌, ◌≤◌, ◌↔◌, length, IsSome, IfSome, MatchOption, slice_index, slice_set};
+// What a search knows in lent memory, two bytes a cell: which cells it has reached, in which order,
+// and from where.
+ghost use Rattle.std.specs.Prelude.{◌≡◌, ℕ, ◌+◌, ◌^◌, ◌<◌, ◌≤◌, ◌↔◌, length, IsSome, IfSome};
+ghost use Rattle.std.specs.Prelude.{MatchOption, slice_index, slice_set};
 ghost use Rattle.hexboard.specs.Words.{words};
 ghost use Rattle.paths.specs.Search.{Reached, parent};
 
 use hexboard::{set_word, word};
 
-// The queue has the cells reached, `count` of them, in their order. Lent bytes hold no `Option`: for each cell `from` has one more than the
-// cell from which it was reached, and 0 if it was not; a source, from which the search starts, is listed as reached from itself. That
-// there is room for each cell of the board is asked by the search, and is no ghost field: the ground would have to stand here as well,
-// lent, and each function would have to promise, instead of the room, that the ground stays.
+/// The queue has the cells reached, `count` of them, in their order. Lent bytes hold no `Option`:
+/// for each cell `from` has one more than the cell from which it was reached, and 0 if it was not;
+/// a source, from which the search starts, is listed as reached from itself. That there is room for
+/// each cell of the board is asked by the search, and is no ghost field: the ground would have to
+/// stand here as well, lent, and each function would have to promise, instead of the room, that the
+/// ground stays.
 #[derive(Drop)]
 pub struct Frontier<'a> {
     pub queue: &'a mut [u8],
@@ -19,10 +23,12 @@ pub struct Frontier<'a> {
 impl Frontier<'_> {
     ghost use Rattle.paths.specs.Grounds.{HasRoom};
 
-    // The cell at a place of the queue, where there is one.
+    /// The cell at a place of the queue, where there is one.
     pub fn listed(&self, place: u16) -> Option<u16>
         requires { self.now.count ≤ length (words self.now.queue.now) }
-        ensures { MatchOption result (self.now.count ≤ place) (λ cell. (place < self.now.count) × (cell ≡ slice_index (words self.now.queue.now) place)) }
+        ensures { MatchOption result (self.now.count ≤ place)
+            (λ cell. (place < self.now.count) × (cell ≡ slice_index
+            (words self.now.queue.now) place)) }
     {
         if place < self.count {
             word(self.queue, place)
@@ -31,7 +37,7 @@ impl Frontier<'_> {
         }
     }
 
-    // The cell from which a cell was reached, if it was: a source from itself.
+    /// The cell from which a cell was reached, if it was: a source from itself.
     pub fn parent(&self, cell: u16) -> Option<u16>
         ensures reached { IsSome result ↔ Reached (words self.now.from.now) cell }
         ensures parent { IfSome result (λ before. before ≡ parent (words self.now.from.now) cell) }
@@ -39,12 +45,14 @@ impl Frontier<'_> {
         word(self.from, cell)?.checked_sub(1)
     }
 
-    // Lists a cell as reached from another, or a source as reached from itself.
+    /// Lists a cell as reached from another, or a source as reached from itself.
     pub fn enlist(&mut self, cell: u16, parent: u16)
         requires fits { parent + 1 < 2 ^ 16 }
         requires few { self.old.count + 1 < 2 ^ 16 }
-        ensures listed { words self.new.queue.now ≡ slice_set (words self.old.queue.now) self.old.count cell }
-        ensures reached { words self.new.from.now ≡ slice_set (words self.old.from.now) cell (parent + 1) }
+        ensures listed { words self.new.queue.now ≡ slice_set
+            (words self.old.queue.now) self.old.count cell }
+        ensures reached { words self.new.from.now ≡ slice_set (words self.old.from.now) cell
+            (parent + 1) }
         ensures count { self.new.count ≡ self.old.count + 1 }
         ensures room { (n : ℕ) → HasRoom self.old n → HasRoom self.new n }
     {

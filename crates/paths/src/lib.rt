@@ -1,4 +1,5 @@
-// A way of a side: a row of its stones from its first border to its last, found by a breadth-first search in lent memory.
+// A way of a side: a row of its stones from its first border to its last, found by a breadth-first
+// search in lent memory.
 #![tactic(auto)]
 
 mod frontier;
@@ -15,9 +16,10 @@ use crate::frontier::Frontier;
 use crate::ground::Ground;
 use hexboard::{Side, Size, set_word};
 
-// Finds a shortest way of a side and writes its cells to `out`, two bytes a cell, low byte first: the answer is how many there are.
-// Where the side has not connected there is none, and `out` is left as it was. `queue` and `from` are scratch, two bytes a cell each.
-// The parts come one by one, as they lie in the caller's memory; `Ground` and `Frontier` are made of them here.
+/// Finds a shortest way of a side and writes its cells to `out`, two bytes a cell, low byte first:
+/// the answer is how many there are. Where the side has not connected there is none, and `out` is
+/// left as it was. `queue` and `from` are scratch, two bytes a cell each. The parts come one by
+/// one, as they lie in the caller's memory; `Ground` and `Frontier` are made of them here.
 pub fn find_way(
     size: Size,
     side: Side,
@@ -39,7 +41,8 @@ pub fn find_way(
     let mut cell = search::search(&ground, &mut frontier)?;
     let mut count = 1;
     let _ = set_word(out, 0, cell);
-    // No plainer by `successors`: its closure would have to ask `is_last` and to hold the frontier lent.
+    // No plainer by `successors`: its closure would have to ask `is_last` and to hold the frontier
+    // lent.
     while !ground.is_last(cell) {
         cell = frontier.parent(cell).unwrap();
         let _ = set_word(out, count, cell);

@@ -13,15 +13,18 @@ use hexboard::Neighbours;
 
 // Whether a cell is to be listed: a stone of the side stands there, and it is not reached yet.
 fn is_fresh(ground: &Ground, frontier: &Frontier, cell: u16) -> bool
-    ensures { result ≡ ((ground_of ground.now).own cell && slice_index (words frontier.now.from.now) cell == 0) }
+    ensures { result ≡ ((ground_of ground.now).own cell
+        && slice_index (words frontier.now.from.now) cell == 0) }
 {
     ground.is_own(cell) && frontier.parent(cell).is_none()
 }
 
-// Lists the side's stones at its last border, and forgets what was listed. Stops at a stone that is at its first border as well.
+// Lists the side's stones at its last border, and forgets what was listed. Stops at a stone that is
+// at its first border as well.
 fn sow(ground: &Ground, frontier: &mut Frontier) -> Option<u16>
     requires { HasRoom frontier.old ground.now.size.n }
-    ensures sown { Sowing (ground_of ground.now) (words frontier.new.queue.now) (words frontier.new.from.now) frontier.new.count result }
+    ensures sown { Sowing (ground_of ground.now) (words frontier.new.queue.now)
+        (words frontier.new.from.now) frontier.new.count result }
     ensures room { HasRoom frontier.new ground.now.size.n }
 {
     frontier.from.fill(0);
@@ -38,10 +41,14 @@ fn sow(ground: &Ground, frontier: &mut Frontier) -> Option<u16>
     None
 }
 
-// A stone of the side at its first border, from which `from` leads to the last by a shortest way. None if the side has not connected.
+/// A stone of the side at its first border, from which `from` leads to the last by a shortest way.
+/// None if the side has not connected.
 pub fn search(ground: &Ground, frontier: &mut Frontier) -> Option<u16>
     requires { HasRoom frontier.old ground.now.size.n }
-    ensures met { MatchOption result (Connects (laid ground.now.size.n ground.now.cells.now) (number ground.now.side) → ⊥) (Met (ground_of ground.now) (words frontier.new.queue.now) (words frontier.new.from.now)) }
+    ensures met { MatchOption result (Connects (laid ground.now.size.n ground.now.cells.now)
+        (number ground.now.side) →
+        ⊥) (Met (ground_of ground.now) (words frontier.new.queue.now)
+        (words frontier.new.from.now)) }
     ensures room { HasRoom frontier.new ground.now.size.n }
 {
     if let Some(cell) = sow(ground, frontier) {

@@ -16,6 +16,7 @@ pub struct Timed<'a, L> {
 }
 
 impl<'a, L> Timed<'a, L> {
+    /// Before the first line.
     pub fn new(rt: &'a HostRuntime, listener: L) -> Timed<'a, L> {
         Timed {
             rt,

@@ -1,7 +1,9 @@
--- Sets of cells as the bits of a number: cell k is in the set x if bit k of x is 1. Definitions only.
+-- Sets of cells as the bits of a number: cell k is in the set x if bit k of x is 1. Definitions
+-- only.
 use Rattle.std.specs.Prelude.{◌≡◌, ℕ, zero, suc, ◌+◌, ◌/◌, ◌%◌, ◌^◌, ◌≤◌, List, [], ◌∷◌}
 
--- 1 if cell k is in the set, else 0. The lowest cell is the head of the word, and the others are the set halved
+-- 1 if cell k is in the set, else 0. The lowest cell is the head of the word, and the others are
+-- the set halved
 unfoldable pub bit : ℕ → ℕ → ℕ
 bit zero x = x % 2
 bit (suc k) x = bit k (x / 2)

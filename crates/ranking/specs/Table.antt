@@ -1,5 +1,6 @@
 -- A table of numbers below 4, four to a byte. Definitions only.
-use Rattle.std.specs.Prelude.{◌≡◌, ℕ, zero, suc, ◌+◌, ◌*◌, ◌/◌, ◌%◌, ◌^◌, cond, ◌==◌, List, length, ◌≢◌, slice_index}
+use Rattle.std.specs.Prelude.{◌≡◌, ℕ, zero, suc, ◌+◌, ◌*◌, ◌/◌, ◌%◌, ◌^◌, cond, ◌==◌, List, length}
+use Rattle.std.specs.Prelude.{◌≢◌, slice_index}
 
 -- what stands at place i
 unfoldable pub entry : List ℕ → ℕ → ℕ

@@ -1,4 +1,5 @@
--- Pascal's triangle and the places where positions with so many stones begin, as lists. Definitions only.
+-- Pascal's triangle and the places where positions with so many stones begin, as lists. Definitions
+-- only.
 use Rattle.std.specs.Prelude.{◌≡◌, ℕ, ◌<◌, List, [], slice_index, slice_index_or}
 use Rattle.ranking.specs.Positions.{choose, start}
 

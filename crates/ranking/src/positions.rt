@@ -48,10 +48,12 @@ impl Triangle {
         self.choose(k, all) as usize * self.choose(all, stones.mine) as usize
     }
 
-    // How many of the ways to lay so many stones on k + 1 cells come before those that have `first` on the first cell.
+    // How many of the ways to lay so many stones on k + 1 cells come before those that have `first`
+    // on the first cell.
     #[tactic(auto, using(std::proofs::lemmas::Bool::Decides::nat_tests), unfolding(crate::specs::Positions::before))]
     fn before(&self, k: u32, first: Stones, stones: Stones) -> usize
-        requires { (k < 16) × ((stones.mine + stones.theirs ≤ 16) × (first.theirs ≤ stones.theirs)) }
+        requires { (k < 16) × ((stones.mine + stones.theirs ≤ 16)
+            × (first.theirs ≤ stones.theirs)) }
         ensures { result ≡ before k first.mine first.theirs stones.mine stones.theirs }
     {
         if first.mine == 1 {
@@ -68,8 +70,8 @@ impl Triangle {
     }
 }
 
-/// What the places of positions are reckoned from, for ends with so many cells: Pascal's triangle, and how many positions have fewer
-/// stones.
+/// What the places of positions are reckoned from, for ends with so many cells: Pascal's triangle,
+/// and how many positions have fewer stones.
 #[derive(Drop)]
 pub struct Ranking {
     pub cells: u32,

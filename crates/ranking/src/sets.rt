@@ -23,7 +23,8 @@ pub fn one(cell: u32) -> u64
     1 << cell
 }
 
-/// What is left of a set whose cells are taken out one after the other, the lowest first: seen as the list of those cells.
+/// What is left of a set whose cells are taken out one after the other, the lowest first: seen as
+/// the list of those cells.
 #[derive(Drop)]
 pub struct Cells {
     rest: u64,

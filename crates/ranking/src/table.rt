@@ -1,4 +1,5 @@
-// A table of numbers below 4 in lent memory, four to a byte. What a number says is for whoever writes it.
+// A table of numbers below 4 in lent memory, four to a byte. What a number says is for whoever
+// writes it.
 ghost use Rattle.std.specs.Prelude.{◌≡◌, ℕ, ◌/◌, ◌<◌, length};
 ghost use Rattle.ranking.specs.Table.{entry, Put};
 

@@ -1,6 +1,6 @@
 -- Whether the side to move can force that it connects: somebody has won already, or the end is looked through.
-use Rattle.std.proofs.Common.{◌≡◌, ℕ, ◌+◌, ◌*◌, ◌%◌, ◌<◌, eqb, ◌≢◌, sym, refl, ap, ◌∙◌, subst, inl, inr, add-one}
-use Rattle.hexboard.specs.Board.{pick, Board, Connects}
+use Rattle.std.proofs.Common.{◌≡◌, ℕ, ◌+◌, ◌*◌, ◌%◌, ◌<◌, eqb, ◌≢◌, sym, refl, ap, ◌∙◌, subst, inl, inr, add-one, if◌then◌else◌}
+use Rattle.hexboard.specs.Board.{Board, Connects}
 use Rattle.hexboard.specs.Games as games
 use Rattle.hexboard.specs.Promise.{Good, OneOfBoth}
 use Rattle.hexboard.specs.Sides.{number}
@@ -26,7 +26,7 @@ lost_to b One Two good apart c f = (one_of_both_lem b 2 good (inr refl)).1 (game
 lost_to b Two One good apart c f = (one_of_both_lem b 1 good (inl refl)).1 f (games.has 1 c)
 lost_to b Two Two good apart c f = apart refl
 
-module _ (g : Game) (m : Memory) (h : Holds g m) (turn : Side) (is : number turn ≡ pick (eqb (g.count % 2) 0) 1 2) where
+module _ (g : Game) (m : Memory) (h : Holds g m) (turn : Side) (is : number turn ≡ (if eqb (g.count % 2) 0 then 1 else 2)) where
   abbrev now_game : games.Game
   now_game = formal g m
 

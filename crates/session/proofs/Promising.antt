@@ -1,8 +1,8 @@
 -- A desk of the rules that answers as the code was heard to answer, answers all calls right.
-use Rattle.std.proofs.Common.{◌≡◌, refl, ℕ, ◌*◌, ◌<◌, ◌≤◌, min, true, false, ◌&&◌, ◌==◌, nat_lt, List, [], ◌∷◌, map, length, ◌++◌, sym, ap, subst, ⊎_elim, mul-le-mul, arith, MatchResult}
+use Rattle.std.proofs.Common.{◌≡◌, refl, ℕ, ◌*◌, ◌<◌, ◌≤◌, min, true, false, ◌&&◌, ◌==◌, nat_lt, List, [], ◌∷◌, map, length, ◌++◌, sym, ap, subst, ⊎_elim, mul-le-mul, arith, MatchResult, if◌then◌else◌}
 use Rattle.std.proofs.lemmas.List.{length-set, length-replicate}
 use Rattle.std.proofs.str.Laws.{order}
-use Rattle.hexboard.specs.Board.{pick, put, other, at, all_cells}
+use Rattle.hexboard.specs.Board.{put, other, at, all_cells}
 use Rattle.hexboard.specs.Games as games
 use Rattle.hexboard.specs.Promise as promise
 use Rattle.hexboard.proofs.Boards.{all_cells_replicate}
@@ -21,11 +21,11 @@ length_after : (g : games.Game) (c : games.Call) → length ((games.after g c).b
 unfolding games.after
 length_after g (games.moves i) =
     elim (nat_lt i (length g.board.cells) && at g.board i == 0)
-    as (λ b. length ((pick b (record { board = put g.board g.turn i; turn = other g.turn; moves = g.moves ++ (i ∷ []) }) g).board.cells) ≡ length g.board.cells)
+    as (λ b. length ((if b then record { board = put g.board g.turn i; turn = other g.turn; moves = g.moves ++ (i ∷ []) } else g).board.cells) ≡ length g.board.cells)
     [ true ↦ length-set g.board.cells i g.turn | false ↦ λ _. length g.board.cells ]
 length_after g games.back =
     elim (length g.moves == 0)
-    as (λ b. length ((pick b g (record { board = put g.board 0 (games.last_of 0 g.moves); turn = other g.turn; moves = games.but_last g.moves })).board.cells) ≡ length g.board.cells)
+    as (λ b. length ((if b then g else record { board = put g.board 0 (games.last_of 0 g.moves); turn = other g.turn; moves = games.but_last g.moves }).board.cells) ≡ length g.board.cells)
     [ true ↦ λ _. length g.board.cells | false ↦ length-set g.board.cells (games.last_of 0 g.moves) 0 ]
 length_after g games.who = λ _. length g.board.cells
 length_after g games.can_force = λ _. length g.board.cells

@@ -1,5 +1,6 @@
 -- The game of the rules that a desk stands for, and what its answers are by the rules.
-use Rattle.std.specs.Prelude.{◌≡◌, ℕ, ◌+◌, ◌<◌, ◌≤◌, ◌⊎◌, Ok, Err, vec_items, vec_capacity, Option, Result, MatchOption, MatchResult}
+use Rattle.std.specs.Prelude.{◌≡◌, ℕ, ◌+◌, ◌<◌, ◌≤◌, ◌⊎◌, Ok, Err, vec_items, vec_capacity, Option}
+use Rattle.std.specs.Prelude.{Result, MatchOption, MatchResult}
 use Rattle.hexboard.specs.Board.{Connects}
 use Rattle.hexboard.specs.Games as games
 use Rattle.hexboard.specs.Sides.{number}
@@ -13,7 +14,8 @@ use Rattle.session.specs.declared.unopened.Unopened.TheVariants.{Refused, NoMemo
 
 -- what its memory holds
 abbrev pub memory_of : Desk → Memory
-memory_of d = lent (vec_items d.stones) (vec_items d.log) (vec_items d.parents) (vec_items d.borders)
+memory_of d =
+    lent (vec_items d.stones) (vec_items d.log) (vec_items d.parents) (vec_items d.borders)
 
 -- the game that it stands for
 abbrev pub desk_game : Desk → games.Game
@@ -43,14 +45,15 @@ Opened n (Ok d) = (0 < n) × (n ≤ 19) × IsNewDesk n d
 Opened n (Err (Refused why)) = (why ≡ refusal.BadSize) × (0 < n → n ≤ 19 → ⊥)
 Opened n (Err NoMemory) = (0 < n) × (n ≤ 19)
 
--- The first of the checks that fails: n is out of range, or a board so large has no room, since the largest is smaller.
+-- The first of the checks that fails: n is out of range, or a board so large has no room, since the
+-- largest is smaller.
 abbrev pub RefusesSize : ℕ → ℕ → Refusal → Type 0
 RefusesSize n largest why =
     ((why ≡ refusal.BadSize) × (0 < n → n ≤ 19 → ⊥))
     ⊎ ((why ≡ refusal.SmallMemory) × (0 < n) × (n ≤ 19) × (largest < n))
 
--- What opening again answers: a new game in the same room, with scratch and the bytes for a way as they were; or nothing at all has
--- changed.
+-- What opening again answers: a new game in the same room, with scratch and the bytes for a way as
+-- they were; or nothing at all has changed.
 abbrev pub Reopens : ℕ → Desk → Desk → Result (Unit {0}) Refusal → Type 0
 Reopens n old new r =
     MatchResult r

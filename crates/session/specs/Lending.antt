@@ -25,7 +25,9 @@ pub record New (n : ℕ) (m : Memory) (scratch : ℕ) : Type 0 where
   pub new : (g : Game) → Fresh n g → formal g m ≡ games.new_game n
   pub room : Room n scratch (2 * (n * n))
 
--- The first of the checks that fails: n is out of range, or there are not so many bytes as are asked for.
+-- The first of the checks that fails: n is out of range, or there are not so many bytes as are
+-- asked for.
 abbrev pub NotOpened : ℕ → ℕ → Refusal → Type 0
 NotOpened n bytes why =
-    ((why ≡ BadSize) × (0 < n → n ≤ 19 → ⊥)) ⊎ ((why ≡ SmallMemory) × (0 < n) × (n ≤ 19) × (bytes < asked n))
+    ((why ≡ BadSize) × (0 < n → n ≤ 19 → ⊥))
+    ⊎ ((why ≡ SmallMemory) × (0 < n) × (n ≤ 19) × (bytes < asked n))

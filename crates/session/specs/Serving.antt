@@ -12,13 +12,15 @@ use Rattle.session.specs.Replies.{Reply, replied, way_cells, HasBytes}
 use Rattle.session.specs.Short.{Short}
 use Rattle.wire.specs.declared.answer.Answer.TheVariants.{Refused}
 
--- Room on a board n wide: scratch for the search for a way, four bytes a cell, and for the table of an end; and for the cells of a way, two bytes a cell.
+-- Room on a board n wide: scratch for the search for a way, four bytes a cell, and for the table of
+-- an end; and for the cells of a way, two bytes a cell.
 pub record Room (n scratch way : ℕ) : Type 0 where
   pub searched : 4 * (n * n) ≤ scratch
   pub tabled : bytes_of_table n ≤ scratch
   pub written : 2 * (n * n) ≤ way
 
--- what lies beside the memory of the game: scratch, which holds anything, and the bytes that a way is written to
+-- what lies beside the memory of the game: scratch, which holds anything, and the bytes that a way
+-- is written to
 pub record Beside : Type 0 where
   pub scratch : List ℕ
   pub way : List ℕ
@@ -30,9 +32,12 @@ beside scratch way = record { scratch = scratch; way = way }
 abbrev pub Told : Game → Memory → games.Call → games.Answer → Type 0
 Told g m question a = games.Right (formal g m) question a (formal g m)
 
--- A call on game g in memory m leads to game h in memory k, and is answered by a reply: it is right by the rules for the two games, a way
--- that it shows is a shortest, the memory holds the game again, a refusal changes nothing at all, and of the way's bytes only those of the way are written.
-pub record Answered (g : Game) (m : Memory) (s : Beside) (call : Call) (h : Game) (k : Memory) (t : Beside) (reply : Reply) : Type 0 where
+-- A call on game g in memory m leads to game h in memory k, and is answered by a reply: it is right
+-- by the rules for the two games, a way that it shows is a shortest, the memory holds the game
+-- again, a refusal changes nothing at all, and of the way's bytes only those of the way are
+-- written.
+pub record Answered (g : Game) (m : Memory) (s : Beside) (call : Call) (h : Game) (k : Memory)
+    (t : Beside) (reply : Reply) : Type 0 where
   pub right : games.Right (formal g m) (asked call) (replied reply t.way) (formal h k)
   pub short : Short (formal g m).board (replied reply t.way)
   pub holds : Holds h k

@@ -12,7 +12,8 @@ abbrev pub told : Result ℕ Refusal → games.Answer
 told (Ok n) = games.number n
 told (Err why) = games.refused (reason why).number (reason why).place
 
--- the answer of the rules to who has connected: nobody, or a side and its way, whose cells stand at the front of the bytes
+-- the answer of the rules to who has connected: nobody, or a side and its way, whose cells stand at
+-- the front of the bytes
 abbrev pub told_who : Option (Side × ℕ) → List ℕ → games.Answer
 told_who None bytes = games.number 0
 told_who (Some found) bytes = games.way (number found.0) (words (take (2 * found.1) bytes))

@@ -1,5 +1,7 @@
-// A desk owns the memory of its games, and lends it to the functions that serve games in lent memory. Once made it never allocates.
-ghost use Rattle.std.specs.Prelude.{◌≡◌, ℕ, ◌+◌, ◌-◌, ◌*◌, ◌%◌, ◌<◌, ◌≤◌, ◌++◌, length, take, drop, replicate, IfOk};
+// A desk owns the memory of its games, and lends it to the functions that serve games in lent
+// memory. Once made it never allocates.
+ghost use Rattle.std.specs.Prelude.{◌≡◌, ℕ, ◌+◌, ◌-◌, ◌*◌, ◌%◌, ◌<◌, ◌≤◌, ◌++◌, length, take, drop};
+ghost use Rattle.std.specs.Prelude.{replicate, IfOk};
 ghost use Rattle.std.specs.Prelude.{vec_len, vec_capacity};
 ghost use Rattle.hexboard.specs.Board.{empties};
 ghost use Rattle.hexboard.specs.Games as games;
@@ -25,7 +27,8 @@ use wire::{Answer, Call, Refusal};
 /// A game, and memory for it and for every board up to the largest that the desk was made for.
 #[derive(Drop)]
 pub struct Desk {
-    // The board's size, the count of moves and the winner; stones, moves and groups are in memory, as the moves made them.
+    // The board's size, the count of moves and the winner; stones, moves and groups are in memory,
+    // as the moves made them.
     game: Game,
     largest: Size,
     stones: Vec<u8>,
@@ -45,8 +48,8 @@ pub struct Desk {
     ghost grouped: { Grouped game (lent stones.items log.items parents.items borders.items) },
 }
 
-// So many bytes in memory that has room for no more. Std promises that a vector has the room that is asked for, and not that it has no
-// more: one with more is let go.
+// So many bytes in memory that has room for no more. Std promises that a vector has the room that
+// is asked for, and not that it has no more: one with more is let go.
 fn bytes(heap: Global, count: usize) -> Result<Vec<u8>, AllocError>
     ensures len { IfOk result (λ v. vec_len v ≡ count) }
     ensures capacity { IfOk result (λ v. vec_capacity v ≡ count) }
@@ -61,22 +64,25 @@ fn bytes(heap: Global, count: usize) -> Result<Vec<u8>, AllocError>
 // Makes a vector longer by zeros or shorter, within the room that it has.
 fn set_len(bytes: &mut Vec<u8>, count: usize)
     requires { count ≤ vec_capacity bytes.old }
-    ensures items { bytes.new.items ≡ take count bytes.old.items ++ replicate (count - vec_len bytes.old) 0 }
+    ensures items { bytes.new.items ≡ take count bytes.old.items
+        ++ replicate (count - vec_len bytes.old) 0 }
     ensures len { vec_len bytes.new ≡ count }
     ensures capacity { vec_capacity bytes.new ≡ vec_capacity bytes.old }
 {
     bytes.truncate(count);
-    // Std promises of `insert` that the vector stays in its memory, of `resize` only that the memory does not shrink.
+    // Std promises of `insert` that the vector stays in its memory, of `resize` only that the
+    // memory does not shrink.
     for end in bytes.len()..count {
         bytes.insert(end, 0).unwrap();
     }
 }
 
 impl Desk {
-    ghost use Rattle.session.specs.Desks.{desk_game, largest_of, bytes_owned, Outcome, IsNewDesk, Opened, Reopens};
+    ghost use Rattle.session.specs.Desks.{desk_game, largest_of, bytes_owned, Outcome, IsNewDesk};
+    ghost use Rattle.session.specs.Desks.{Opened, Reopens};
 
-    /// A new game on a board n wide and n tall, n from 1 to 19, with room for that board alone. All memory that it will ever need is
-    /// asked for here.
+    /// A new game on a board n wide and n tall, n from 1 to 19, with room for that board alone. All
+    /// memory that it will ever need is asked for here.
     pub fn open(heap: Global, n: u16) -> Result<Desk, Unopened>
         ensures { Opened n result }
     {
@@ -86,7 +92,8 @@ impl Desk {
         Ok(Desk::with_room(heap, size)?)
     }
 
-    /// A new game on a board of this size, with room for every board up to it. All memory that will ever be needed is asked for here.
+    /// A new game on a board of this size, with room for every board up to it. All memory that will
+    /// ever be needed is asked for here.
     pub fn with_room(heap: Global, largest: Size) -> Result<Desk, AllocError>
         ensures { IfOk result (IsNewDesk largest.n) }
     {
@@ -110,8 +117,9 @@ impl Desk {
         })
     }
 
-    /// A new game on a board n wide and n tall, in the memory that the desk has. It is refused if n is not from 1 to 19, or the board
-    /// is larger than the desk has room for; then the game goes on as it was.
+    /// A new game on a board n wide and n tall, in the memory that the desk has. It is refused if n
+    /// is not from 1 to 19, or the board is larger than the desk has room for; then the game goes
+    /// on as it was.
     pub fn reopen(&mut self, n: u16) -> Result<(), Refusal>
         ensures { Reopens n self.old self.new result }
     {
@@ -146,7 +154,8 @@ impl Desk {
 
     /// Puts a stone of the side to move on a cell: the move's number, from 0.
     pub fn make_move(&mut self, cell: u16) -> Result<u16, Refusal>
-        ensures right { games.Right (desk_game self.old) (games.moves cell) (told result) (desk_game self.new) }
+        ensures right { games.Right (desk_game self.old) (games.moves cell) (told result)
+            (desk_game self.new) }
         ensures way { self.new.way.items ≡ self.old.way.items }
         ensures room { largest_of self.new ≡ largest_of self.old }
     {
@@ -164,7 +173,8 @@ impl Desk {
 
     /// Takes the last move back: how many moves are left.
     pub fn take_back(&mut self) -> Result<u16, Refusal>
-        ensures right { games.Right (desk_game self.old) games.back (told result) (desk_game self.new) }
+        ensures right { games.Right (desk_game self.old) games.back (told result)
+            (desk_game self.new) }
         ensures way { self.new.way.items ≡ self.old.way.items }
         ensures room { largest_of self.new ≡ largest_of self.old }
     {
@@ -178,12 +188,16 @@ impl Desk {
         Ok(self.game.count())
     }
 
-    /// Who has connected, and how: the side, and how many cells its way has, a shortest. They then stand at the front of `way`.
+    /// Who has connected, and how: the side, and how many cells its way has, a shortest. They then
+    /// stand at the front of `way`.
     pub fn who(&mut self) -> Option<(Side, u16)>
-        ensures right { games.Right (desk_game self.old) games.who (told_who result self.new.way.items) (desk_game self.new) }
+        ensures right { games.Right (desk_game self.old) games.who
+            (told_who result self.new.way.items) (desk_game self.new) }
         ensures short { Short (desk_game self.old).board (told_who result self.new.way.items) }
-        ensures counted { found_cells result ≡ length (words (take (2 * found_cells result) self.new.way.items)) }
-        ensures behind { drop (2 * found_cells result) self.new.way.items ≡ drop (2 * found_cells result) self.old.way.items }
+        ensures counted { found_cells result ≡ length
+            (words (take (2 * found_cells result) self.new.way.items)) }
+        ensures behind { drop (2 * found_cells result) self.new.way.items ≡ drop
+            (2 * found_cells result) self.old.way.items }
         ensures room { largest_of self.new ≡ largest_of self.old }
     {
         who(self.game, &self.stones, &mut self.scratch, &mut self.way)
@@ -191,10 +205,13 @@ impl Desk {
 
     /// Serves a call. If the answer is a way, its cells then stand at the front of `way`.
     pub fn serve(&mut self, call: Call) -> Reply
-        ensures right { games.Right (desk_game self.old) (asked call) (replied result self.new.way.items) (desk_game self.new) }
+        ensures right { games.Right (desk_game self.old) (asked call)
+            (replied result self.new.way.items) (desk_game self.new) }
         ensures short { Short (desk_game self.old).board (replied result self.new.way.items) }
-        ensures counted { way_cells result ≡ length (words (take (2 * way_cells result) self.new.way.items)) }
-        ensures behind { drop (2 * way_cells result) self.new.way.items ≡ drop (2 * way_cells result) self.old.way.items }
+        ensures counted { way_cells result ≡ length
+            (words (take (2 * way_cells result) self.new.way.items)) }
+        ensures behind { drop (2 * way_cells result) self.new.way.items ≡ drop
+            (2 * way_cells result) self.old.way.items }
         ensures room { largest_of self.new ≡ largest_of self.old }
     {
         let (game, reply) = serve(
@@ -211,15 +228,16 @@ impl Desk {
         reply
     }
 
-    /// The bytes that ways are written to, two a cell, low byte first. The way that was found last stands at the front, with as many
-    /// cells as `who` or `serve` told.
+    /// The bytes that ways are written to, two a cell, low byte first. The way that was found last
+    /// stands at the front, with as many cells as `who` or `serve` told.
     pub fn way(&self) -> &[u8]
         ensures { result.now ≡ self.now.way.items }
     {
         &self.way
     }
 
-    /// The answer that a reply of this desk is, with the way that was found last if the reply tells one.
+    /// The answer that a reply of this desk is, with the way that was found last if the reply tells
+    /// one.
     pub fn answer(&self, reply: Reply) -> Answer<&[u8]>
         ensures value { formal.told result ≡ replied reply self.now.way.items }
         ensures bytes { way_bytes result ≡ take (2 * way_cells reply) self.now.way.items }
@@ -231,7 +249,8 @@ impl Desk {
     /// Who has won: the side that has connected, or nobody.
     pub fn winner(&self) -> Option<Side>
         ensures connected { Outcome (desk_game self.now) result }
-        ensures by_moves { won_by result ≡ winner_of self.now.game.size.n (desk_game self.now).moves }
+        ensures by_moves { won_by result ≡ winner_of self.now.game.size.n
+            (desk_game self.now).moves }
     {
         self.game.winner()
     }

@@ -1,5 +1,7 @@
-// A game in memory that its caller lends: opening cuts the memory into parts once, and every call works on the parts.
-ghost use Rattle.std.specs.Prelude.{◌≡◌, ℕ, ◌+◌, ◌*◌, ◌<◌, ◌≤◌, List, [], ◌∷◌, ◌++◌, length, MatchResult};
+// A game in memory that its caller lends: opening cuts the memory into parts once, and every call
+// works on the parts.
+ghost use Rattle.std.specs.Prelude.{◌≡◌, ℕ, ◌+◌, ◌*◌, ◌<◌, ◌≤◌, List, [], ◌∷◌, ◌++◌, length};
+ghost use Rattle.std.specs.Prelude.{MatchResult};
 ghost use Rattle.hexboard.specs.Games as games;
 ghost use Rattle.history.specs.Holds.{formal, Holds};
 ghost use Rattle.session.specs.Serving.{Room};
@@ -16,8 +18,9 @@ use history::Game;
 use thiserror::Error;
 use wire::Refusal;
 
-/// The parts of the lent memory, one behind the other: a byte for each stone; two for each move; two for each cell's parent in its
-/// group, and one for the borders of its group; and scratch for the searches.
+/// The parts of the lent memory, one behind the other: a byte for each stone; two for each move;
+/// two for each cell's parent in its group, and one for the borders of its group; and scratch for
+/// the searches.
 #[derive(Drop)]
 pub struct Parts<'a> {
     pub stones: &'a mut [u8],
@@ -43,8 +46,8 @@ pub fn memory_for(size: Size) -> usize
     6 * usize::from(size.cells()) + endgame::table_bytes(size)
 }
 
-/// A new game on a board n wide and n tall, n from 1 to 19, in memory that holds anything. The parts hold it, and `Game::new` gives
-/// it by value.
+/// A new game on a board n wide and n tall, n from 1 to 19, in memory that holds anything. The
+/// parts hold it, and `Game::new` gives it by value.
 pub fn open(n: u16, memory: &mut [u8]) -> Result<Parts<'_>, Closed<'_>>
     ensures { MatchResult result
         (λ p. New n (memory_in p) (length p.scratch.now))
@@ -77,9 +80,10 @@ pub fn open(n: u16, memory: &mut [u8]) -> Result<Parts<'_>, Closed<'_>>
     })
 }
 
-/// Takes a call by the rules or turns it away, and writes the answer's bytes to the front of `answer`: how many they are. None if
-/// `answer` has no room for every answer, two bytes for each cell of the board and 8 more; then nothing changes.
-// The parts come and go by value: behind a `&mut` two of them could not be lent in one call.
+/// Takes a call by the rules or turns it away, and writes the answer's bytes to the front of
+/// `answer`: how many they are. None if `answer` has no room for every answer, two bytes for each
+/// cell of the board and 8 more; then nothing changes. The parts come and go by value: behind a
+/// `&mut` two of them could not be lent in one call.
 pub fn call<'a>(
     game: Game,
     parts: Parts<'a>,
@@ -88,9 +92,12 @@ pub fn call<'a>(
 ) -> (Game, Parts<'a>, Option<usize>)
     requires holds { Holds game (memory_in parts) }
     requires room { Room game.size.n (length parts.scratch.now) (2 * (game.size.n * game.size.n)) }
-    ensures called { Called game (memory_in parts.entry) parts.entry.scratch.now bytes.now answer.old result.0 (memory_in result.1) result.1.scratch.now answer.new result.2 }
+    ensures called { Called game
+        (memory_in parts.entry) parts.entry.scratch.now bytes.now answer.old result.0
+        (memory_in result.1) result.1.scratch.now answer.new result.2 }
     ensures holds { Holds result.0 (memory_in result.1) }
-    ensures room { Room result.0.size.n (length result.1.scratch.now) (2 * (result.0.size.n * result.0.size.n)) }
+    ensures room { Room result.0.size.n (length result.1.scratch.now)
+        (2 * (result.0.size.n * result.0.size.n)) }
 {
     let cells = usize::from(game.size().cells());
     // No refusal: there is no room to write one.
@@ -133,13 +140,14 @@ pub fn call<'a>(
 
 /// Where the bytes of answers go.
 pub trait Sink {
-    // it was given these answers, each a row of bytes, the oldest first. A relation, since a sink need not keep all that it is given:
-    // one that counts agrees with every list of so many answers
+    // it was given these answers, each a row of bytes, the oldest first. A relation, since a sink
+    // need not keep all that it is given: one that counts agrees with every list of so many answers
     ghost heard: { Self → List (List ℕ) → Type 0 };
 
     /// Takes the bytes of one more answer.
     fn hear(&mut self, answer: &[u8])
-        ensures { (answers : List (List ℕ)) → heard self.old answers → heard self.new (answers ++ answer.now ∷ []) };
+        ensures { (answers : List (List ℕ)) → heard self.old answers →
+            heard self.new (answers ++ answer.now ∷ []) };
 }
 
 // Serves the calls in their order, and gives the bytes of each answer to the sink.
@@ -160,8 +168,8 @@ fn serve_all<S: Sink>(mut game: Game, mut parts: Parts<'_>, calls: &[&[u8]], sin
     }
 }
 
-/// A whole game: a new board n wide and n tall, in memory that holds anything, and calls in bytes. Each is answered, and the sink
-/// hears the answers' bytes. If no board is opened it hears nothing.
+/// A whole game: a new board n wide and n tall, in memory that holds anything, and calls in bytes.
+/// Each is answered, and the sink hears the answers' bytes. If no board is opened it hears nothing.
 pub fn play<'a, S: Sink>(
     n: u16,
     memory: &'a mut [u8],

@@ -5,14 +5,15 @@ ghost use Rattle.session.specs.Replies.{replied, way_cells, way_bytes};
 
 use wire::Answer;
 
-/// An answer that tells how many cells its way has, if it has one. The cells stand in bytes that were lent for them, two a cell, low
-/// byte first.
+/// An answer that tells how many cells its way has, if it has one. The cells stand in bytes that
+/// were lent for them, two a cell, low byte first.
 pub type Reply = Answer<u16>;
 
 // The answer that a reply is, with the way that stands at the front of these bytes.
 pub(crate) fn with_way(reply: Reply, way: &[u8]) -> Answer<&[u8]>
     ensures value { told result ≡ replied reply way.now }
-    ensures bytes { way_bytes result ≡ take (2 * min (way_cells reply) (length way.now / 2)) way.now }
+    ensures bytes { way_bytes result ≡ take
+        (2 * min (way_cells reply) (length way.now / 2)) way.now }
 {
     match reply {
         Answer::Refused(why) => Answer::Refused(why),

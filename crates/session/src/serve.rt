@@ -1,4 +1,5 @@
-// A call on a game in lent memory: each is answered right by the rules for the games before and after it.
+// A call on a game in lent memory: each is answered right by the rules for the games before and
+// after it.
 ghost use Rattle.std.specs.Prelude.{◌≡◌, ℕ, ◌*◌, ◌≤◌, List, length, take, drop, ◌≢◌};
 ghost use Rattle.hexboard.specs.Board.{Board};
 ghost use Rattle.hexboard.specs.Games as games;
@@ -17,8 +18,8 @@ use hexboard::Side;
 use history::Game;
 use wire::{Call, Refusal};
 
-// Serves a call. `scratch` holds anything, before and after; a way is written to the front of `way`. The parts of the memory come one by
-// one, as they go into `history`.
+/// Serves a call. `scratch` holds anything, before and after; a way is written to the front of
+/// `way`. The parts of the memory come one by one, as they go into `history`.
 pub fn serve(
     game: Game,
     call: Call,
@@ -30,9 +31,12 @@ pub fn serve(
     way: &mut [u8],
 ) -> (Game, Reply)
     requires holds { Holds game (lent stones.old log.old parents.old borders.old) }
-    // Asked here, by `who` and by `call`, and kept by no type: the parts are slices, lent one by one (docs/DECISIONS.md, Memory).
+    // Asked here, by `who` and by `call`, and kept by no type: the parts are slices, lent one by
+    // one (docs/DECISIONS.md, Memory).
     requires room { Room game.size.n (length scratch.old) (length way.old) }
-    ensures { Answered game (lent stones.old log.old parents.old borders.old) (beside scratch.old way.old) call result.0 (lent stones.new log.new parents.new borders.new) (beside scratch.new way.new) result.1 }
+    ensures { Answered game (lent stones.old log.old parents.old borders.old)
+        (beside scratch.old way.old) call result.0 (lent stones.new log.new parents.new borders.new)
+        (beside scratch.new way.new) result.1 }
 {
     match call {
         Call::Move(cell) => {
@@ -54,12 +58,17 @@ pub fn serve(
     }
 }
 
-// Who has connected, and how: the side, and how many cells the way has that is written to the front of `way`.
+/// Who has connected, and how: the side, and how many cells the way has that is written to the
+/// front of `way`.
 pub fn who(game: Game, stones: &[u8], scratch: &mut [u8], way: &mut [u8]) -> Option<(Side, u16)>
     requires room { Room game.size.n (length scratch.old) (length way.old) }
     requires long { length stones.now ≡ game.size.n * game.size.n }
-    ensures right { (log parents borders : List ℕ) → Holds game (lent stones.now log parents borders) → Told game (lent stones.now log parents borders) games.who (told_who result way.new) }
-    ensures short { (log parents borders : List ℕ) → Holds game (lent stones.now log parents borders) → Short (formal game (lent stones.now log parents borders)).board (told_who result way.new) }
+    ensures right { (log parents borders : List ℕ) →
+        Holds game (lent stones.now log parents borders) →
+        Told game (lent stones.now log parents borders) games.who (told_who result way.new) }
+    ensures short { (log parents borders : List ℕ) →
+        Holds game (lent stones.now log parents borders) →
+        Short (formal game (lent stones.now log parents borders)).board (told_who result way.new) }
     ensures counted { found_cells result ≡ length (words (take (2 * found_cells result) way.new)) }
     ensures fits { found_cells result ≤ game.size.n * game.size.n }
     ensures behind { drop (2 * found_cells result) way.new ≡ drop (2 * found_cells result) way.old }
@@ -77,7 +86,9 @@ pub fn who(game: Game, stones: &[u8], scratch: &mut [u8], way: &mut [u8]) -> Opt
 fn can_force(game: Game, stones: &[u8], parents: &[u8], borders: &[u8], scratch: &mut [u8]) -> Reply
     requires holds { (log : List ℕ) × Holds game (lent stones.now log parents.now borders.now) }
     requires room { bytes_of_table game.size.n ≤ length scratch.old }
-    ensures right { (log way : List ℕ) → Holds game (lent stones.now log parents.now borders.now) → Told game (lent stones.now log parents.now borders.now) games.can_force (replied result way) }
+    ensures right { (log way : List ℕ) → Holds game (lent stones.now log parents.now borders.now) →
+        Told game (lent stones.now log parents.now borders.now) games.can_force
+        (replied result way) }
     ensures no_way { (b : Board) (way : List ℕ) → Short b (replied result way) }
     ensures bare { way_cells result ≡ 0 }
     ensures has_bytes { HasBytes result }

@@ -2,7 +2,8 @@
 use hexboard::{Neighbours, NoSide, Side, Size};
 use std::test::Fail;
 
-// Which cells of the 3 by 3 board are next to each other: a row for each cell, 1 for each cell that is next to it.
+// Which cells of the 3 by 3 board are next to each other: a row for each cell, 1 for each cell that
+// is next to it.
 static NEAR: [[u8; 9]; 9] = [
     [0, 1, 0, 1, 0, 0, 0, 0, 0],
     [1, 0, 1, 1, 1, 0, 0, 0, 0],

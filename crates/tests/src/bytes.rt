@@ -84,8 +84,9 @@ fn answers_that_are_not_written(rt: HostRuntime) {
     }
 }
 
-// Rows of bytes that are no answer: a number that no refusal has, a place that its refusal has not, a number cut short, a side that is
-// none, a way cut short, a byte too many, the number of no answer, and nothing.
+// Rows of bytes that are no answer: a number that no refusal has, a place that its refusal has not,
+// a number cut short, a side that is none, a way cut short, a byte too many, the number of no
+// answer, and nothing.
 static NO_ANSWERS: [&[u8]; 8] = [
     &[0, 7, 0, 0, 0],
     &[0, 2, 0, 1, 0],

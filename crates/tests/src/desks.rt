@@ -1,4 +1,5 @@
-// Games played at a desk: what is answered, what is refused first, and that a game can be taken back and played otherwise.
+// Games played at a desk: what is answered, what is refused first, and that a game can be taken
+// back and played otherwise.
 use hexboard::{Side, Size};
 use session::{Desk, Reply, Unopened};
 use std::test::Fail;
@@ -30,7 +31,8 @@ fn play(desk: &mut Desk, cells: &[u16]) -> Result<(), Fail> {
     Ok(())
 }
 
-// Calls, with what a game on 3 by 3 answers them one after the other, in which each side could have won.
+// Calls, with what a game on 3 by 3 answers them one after the other, in which each side could have
+// won.
 static GAME: [(Call, Reply); 17] = [
     (Call::Back, Reply::Refused(Refusal::NoMove)),
     (Call::Move(9), Reply::Refused(Refusal::NoCell)),
@@ -63,8 +65,8 @@ fn each_side_can_win(rt: HostRuntime) -> Result<(), Fail> {
     Ok(())
 }
 
-// On a finished game a cell that is not there comes before the end of the game, and that before a cell that is taken; and no stone
-// comes.
+// On a finished game a cell that is not there comes before the end of the game, and that before a
+// cell that is taken; and no stone comes.
 #[test]
 fn the_first_reason_is_told(rt: HostRuntime) -> Result<(), Fail> {
     let mut desk = Desk::open(rt.alloc(), 3)?;
@@ -82,7 +84,8 @@ static LONG: [u16; 14] = [0, 21, 1, 22, 2, 23, 3, 24, 4, 25, 5, 26, 6, 27];
 // Another on the same board that side 1 wins, down the first column.
 static OTHER: [u16; 13] = [0, 6, 7, 13, 14, 20, 21, 27, 28, 34, 35, 41, 42];
 
-// After every move but the last nobody has connected, and then this side has, by a way of seven cells.
+// After every move but the last nobody has connected, and then this side has, by a way of seven
+// cells.
 fn play_to_the_end(desk: &mut Desk, cells: &[u16], winner: Side) -> Result<(), Fail> {
     for (number, cell) in (0u16..).zip(cells) {
         check(desk.who() == None)?;
@@ -105,7 +108,8 @@ fn a_game_back_to_the_start(rt: HostRuntime) -> Result<(), Fail> {
     play_to_the_end(&mut desk, &OTHER, Side::One)
 }
 
-// One board after the other in one memory, the sizes mixed, against desks that were opened for each: every answer is the same.
+// One board after the other in one memory, the sizes mixed, against desks that were opened for
+// each: every answer is the same.
 #[test]
 fn every_size_in_one_memory(rt: HostRuntime) -> Result<(), Fail> {
     let mut room = Desk::with_room(rt.alloc(), Size::new(19).unwrap())?;

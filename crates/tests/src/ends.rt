@@ -5,8 +5,9 @@ use hexboard::{Side, Size};
 use std::alloc::{AllocError, Global};
 use std::test::Fail;
 
-// What is answered after these moves, and what was done to find out, where stones of side 1 lay on some cells before. None on a board more
-// than 5 wide, if the table is too short, or where a move is refused.
+// What is answered after these moves, and what was done to find out, where stones of side 1 lay on
+// some cells before. None on a board more than 5 wide, if the table is too short, or where a move
+// is refused.
 fn after(size: Size, ahead: &[u16], moves: &[u16], table: &mut [u8]) -> Option<(Verdict, Effort)> {
     let cells = usize::from(size.cells());
     if cells > 25 || table.len() < table_bytes(size) {
@@ -57,7 +58,8 @@ fn middle(heap: Global, moves: &[u16]) -> Result<Option<Verdict>, AllocError> {
     Ok(after(size, &[], moves, &mut table).map(|(verdict, _)| verdict))
 }
 
-// On the empty 3 by 3 board just five cells force: after a move to one of the others the other side can.
+// On the empty 3 by 3 board just five cells force: after a move to one of the others the other side
+// can.
 #[test]
 fn three_by_three(rt: HostRuntime) {
     assert!(rt; matches!(small(3, &[]), Some(Verdict::Yes(2..=6))));
@@ -85,8 +87,8 @@ fn many_and_too_many(rt: HostRuntime) -> Result<(), Fail> {
     Ok(())
 }
 
-// A cell that connects, or two threats of the other side, are seen at once. On the empty board 2 wide, after the one move that is tried
-// side 2 sees two threats.
+// A cell that connects, or two threats of the other side, are seen at once. On the empty board 2
+// wide, after the one move that is tried side 2 sees two threats.
 #[test]
 fn searched_and_looked_at(rt: HostRuntime) {
     let ends: [(u16, &[u16], u64, u64); 3] = [(1, &[], 0, 1), (2, &[1], 0, 1), (2, &[], 1, 2)];

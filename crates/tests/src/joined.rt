@@ -48,7 +48,8 @@ impl Board {
     }
 }
 
-// One stone in the middle joins three groups around it, from the top row to the bottom row; taken out, it leaves no trace.
+// One stone in the middle joins three groups around it, from the top row to the bottom row; taken
+// out, it leaves no trace.
 #[test]
 fn three_groups_joined_and_apart_again(rt: HostRuntime) -> Result<(), Fail> {
     let mut board = Board::new();
@@ -82,7 +83,8 @@ fn three_groups_joined_and_apart_again(rt: HostRuntime) -> Result<(), Fail> {
     Ok(())
 }
 
-// The last cell of a row and the first of the next have numbers next to each other, and do not touch.
+// The last cell of a row and the first of the next have numbers next to each other, and do not
+// touch.
 #[test]
 fn apart_across_the_end_of_a_row(rt: HostRuntime) -> Result<(), Fail> {
     let mut board = Board::new();

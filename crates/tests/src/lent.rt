@@ -10,7 +10,8 @@ use wire::Refusal;
 
 // What opening a board n wide in this memory is refused for, with the memory as it was.
 fn closed(n: u16, memory: &mut [u8]) -> Result<Refusal, Fail> {
-    // Not by `err()`, which the borrow checker does not cover where the `Ok` that it drops holds several `&mut`.
+    // Not by `err()`, which the borrow checker does not cover where the `Ok` that it drops holds
+    // several `&mut`.
     let Err(Closed { why, memory }) = open(n, memory) else {
         return Err(Fail::new("opened"));
     };
@@ -35,7 +36,8 @@ fn memory_too_small(rt: HostRuntime) -> Result<(), Fail> {
     Ok(())
 }
 
-// Copies of the bytes of the parts that keep the game: of its stones, of its moves, and of its groups with their borders.
+// Copies of the bytes of the parts that keep the game: of its stones, of its moves, and of its
+// groups with their borders.
 fn kept_in(heap: Global, parts: &Parts<'_>) -> Result<[Vec<u8>; 4], AllocError> {
     Ok([
         parts.stones.to_vec(heap)?,
@@ -45,8 +47,9 @@ fn kept_in(heap: Global, parts: &Parts<'_>) -> Result<[Vec<u8>; 4], AllocError> 
     ])
 }
 
-// On a board of one cell a move wins, and the way is written behind its head. A call that cannot be read is refused as that, though the
-// game is over, and leaves every byte as it was; so does the move that is taken back.
+// On a board of one cell a move wins, and the way is written behind its head. A call that cannot be
+// read is refused as that, though the game is over, and leaves every byte as it was; so does the
+// move that is taken back.
 #[test]
 fn one_cell_in_bytes(rt: HostRuntime) -> Result<(), Fail> {
     let heap = rt.alloc();

@@ -1,5 +1,5 @@
-// The layers by example. The tests stand in a crate of their own, over what the others make public: beside the code each crate would be
-// proved once more, with its tests.
+// The layers by example. The tests stand in a crate of their own, over what the others make public:
+// beside the code each crate would be proved once more, with its tests.
 #![tactic(auto)]
 
 #[cfg(test)]

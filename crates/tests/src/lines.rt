@@ -87,8 +87,8 @@ fn no_refusals_line(rt: HostRuntime) -> Result<(), Fail> {
     Ok(())
 }
 
-// A board with a cell too few, whose last is drawn as empty, and a way of three stones of side 1. It
-// goes to a text of a fixed size, which needs no memory; into a smaller one it does not fit.
+// A board with a cell too few, whose last is drawn as empty, and a way of three stones of side 1.
+// It goes to a text of a fixed size, which needs no memory; into a smaller one it does not fit.
 #[test]
 fn draws_a_board(rt: HostRuntime) -> Result<(), Fail> {
     let size = Size::new(3).ok_or_else(|| Fail::new("no board is 3 wide"))?;

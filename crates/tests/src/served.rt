@@ -36,7 +36,10 @@ static INPUTS: [(&[u8], &[u8]); 8] = [
         b"board 3\nmove 8\nboard 1\nmove 1\nmove 0\nboard 0\nmove 0\nboard 3\nmove 8\nwho\n",
         b"board 3\n0\nboard 1\nrefused 2 at 0\n0\nrefused 3 at 0\nrefused 4 at 0\nboard 3\n0\n0\n",
     ),
-    (b"board 1\nmove 0\nwho\ncan force\n", b"board 1\n0\nway 1: 0\nno\n"),
+    (
+        b"board 1\nmove 0\nwho\ncan force\n",
+        b"board 1\n0\nway 1: 0\nno\n",
+    ),
     (b"board 2\nback\r\r\nwho\r", b"board 2\nrefused 1 at 4\n0\n"),
 ];
 
@@ -50,7 +53,8 @@ fn whole_inputs(rt: HostRuntime) -> Result<(), Fail> {
     Ok(())
 }
 
-// Lines of so many digits behind `move 0`, and what each is answered by: as long as a line may be, a byte longer, and much longer.
+// Lines of so many digits behind `move 0`, and what each is answered by: as long as a line may be,
+// a byte longer, and much longer.
 static LONG: [(usize, &[u8], &str); 6] = [
     (LONGEST_LINE - 6, b"", "0\n"),
     (LONGEST_LINE - 6, b"\r", "0\n"),
@@ -71,14 +75,19 @@ fn long_lines(rt: HostRuntime) -> Result<(), Fail> {
         input.extend_from_slice(end)?;
         input.extend_from_slice(b"\nback\n")?;
         let out = answer_bytes(heap, small_limits()?, input.as_slice())?;
-        let back = if *answer == "0\n" { "0" } else { "refused 6 at 0" };
+        let back = if *answer == "0\n" {
+            "0"
+        } else {
+            "refused 6 at 0"
+        };
         let lines = format!(in heap; "board 3\n{answer}{back}\n")?;
         assert!(rt; out.as_slice() == lines.as_bytes());
     }
     Ok(())
 }
 
-// The position is drawn after each line that leads to one, and a line that is refused, or asks, draws none.
+// The position is drawn after each line that leads to one, and a line that is refused, or asks,
+// draws none.
 #[test]
 fn positions_after_lines(rt: HostRuntime) -> Result<(), Fail> {
     let heap = rt.alloc();

@@ -33,7 +33,8 @@ static WAYS: [(u16, &[u8], Side, Option<&[u8]>); 8] = [
     ),
 ];
 
-// The way of a side on a board n wide, over scratch memory that holds anything: how many cells it has, which `out` begins with.
+// The way of a side on a board n wide, over scratch memory that holds anything: how many cells it
+// has, which `out` begins with.
 fn way(n: u16, side: Side, cells: &[u8], out: &mut [u8; 98]) -> Result<Option<u16>, Fail> {
     let size = Size::new(n).ok_or_else(|| Fail::new("no such size"))?;
     let all = usize::from(size.cells());

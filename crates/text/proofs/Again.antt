@@ -1,8 +1,7 @@
 -- A line asks for one thing only and stops at one place only, and what is written is read again.
-use Rattle.std.proofs.Common.{◌≡◌, ℕ, ◌<◌, ◌≤◌, min, eqb, List, ◌++◌, get_or, drop, Ok, Err, codes, decimal, sym, refl, ap, ◌∙◌, arith}
+use Rattle.std.proofs.Common.{◌≡◌, ℕ, ◌<◌, ◌≤◌, min, eqb, List, ◌++◌, get_or, drop, Ok, Err, codes, decimal, sym, refl, ap, ◌∙◌, arith, if◌then◌else◌}
 use Rattle.std.specs.Str.Parse.{digits_value}
 use Rattle.std.proofs.lemmas.Fmt.{decimal_is_IsNumeral}
-use Rattle.hexboard.specs.Board.{pick}
 use Rattle.wire.specs.declared.call.Call.TheVariants.{Move, Back, Who, CanForce}
 use Rattle.text.specs.declared.reading.Line.{Line}
 use Rattle.text.specs.declared.reading.Line.TheVariants as line
@@ -13,9 +12,7 @@ use Rattle.text.specs.Readings.{OneThing, OneAnswer, ReadBack}
 -- what a line that can be read asks for, worked out from its bytes: the third one tells the words apart
 abbrev meant : List ℕ → Line
 meant bytes =
-    pick (eqb (get_or bytes 2 0) 97) (line.Board (min (digits_value 10 (drop 6 bytes)) 65535))
-    (pick (eqb (get_or bytes 2 0) 118) (line.Call (Move (min (digits_value 10 (drop 5 bytes)) 65535)))
-    (pick (eqb (get_or bytes 2 0) 99) (line.Call Back) (pick (eqb (get_or bytes 2 0) 111) (line.Call Who) (line.Call CanForce))))
+    if eqb (get_or bytes 2 0) 97 then line.Board (min (digits_value 10 (drop 6 bytes)) 65535) else if eqb (get_or bytes 2 0) 118 then line.Call (Move (min (digits_value 10 (drop 5 bytes)) 65535)) else if eqb (get_or bytes 2 0) 99 then line.Call Back else if eqb (get_or bytes 2 0) 111 then line.Call Who else line.Call CanForce
 
 is_meant : (bytes : List ℕ) (l : Line) → Asks bytes l → meant bytes ≡ l
 is_meant bytes (line.Board n) f = ap meant f.1 ∙ ap line.Board (sym f.2.number)

@@ -1,9 +1,8 @@
 -- Where the cells of a row stand in its line.
-use Rattle.std.proofs.Common.{◌≡◌, ℕ, zero, suc, ◌+◌, ◌-◌, ◌*◌, ◌<◌, Bool, true, false, eqb, List, [], ◌++◌, length, get_or, codes, refl, ap, ◌∙◌, subst, ⊎_elim, arith}
+use Rattle.std.proofs.Common.{◌≡◌, ℕ, zero, suc, ◌+◌, ◌-◌, ◌*◌, ◌<◌, Bool, true, false, eqb, List, [], ◌++◌, length, get_or, codes, refl, ap, ◌∙◌, subst, ⊎_elim, arith, if◌then◌else◌}
 use Rattle.std.proofs.lemmas.List.{get_or-append-add, get_or_append_left, length-append}
 use Rattle.std.proofs.lemmas.Bool.Decides.{nat_tests}
 use Rattle.std.proofs.str.Laws.{order}
-use Rattle.hexboard.specs.Board.{pick}
 use Rattle.text.specs.Boards.{mark, among, each, gap, cell_shown, row_cells, spaces, row_line, RowsLaidOut}
 
 -- the k-th byte of the last part
@@ -34,7 +33,7 @@ spaces_long (suc r) = omega (arith, length-append (spaces r) (codes " "), spaces
 mark_long : (stone : ℕ) (marked : Bool) → length (mark stone marked) ≡ 1
 mark_long stone marked = by_case (eqb stone 1) (eqb stone 2) marked
   where
-    by_case : (one two m : Bool) → length (pick one (pick m (codes "A") (codes "1")) (pick two (pick m (codes "B") (codes "2")) (codes "."))) ≡ 1
+    by_case : (one two m : Bool) → length (if one then (if m then codes "A" else codes "1") else if two then (if m then codes "B" else codes "2") else codes ".") ≡ 1
     by_case true two true = refl
     by_case true two false = refl
     by_case false true true = refl
@@ -42,7 +41,7 @@ mark_long stone marked = by_case (eqb stone 1) (eqb stone 2) marked
     by_case false false m = refl
 
 later_gap : (c : ℕ) → 0 < c → gap c ≡ codes " "
-later_gap c h = let not_first : eqb c 0 ≡ false = grind (arith, nat_tests) in ap (λ b. pick b [] (codes " ")) not_first
+later_gap c h = let not_first : eqb c 0 ≡ false = grind (arith, nat_tests) in ap (λ b. if b then [] else codes " ") not_first
 
 gap_long : (c : ℕ) → 0 < c → length (gap c) ≡ 1
 gap_long c h = ap length (later_gap c h)

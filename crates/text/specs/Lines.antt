@@ -1,4 +1,5 @@
--- The lines of text that can be read, what each asks for, and the one that is written for it. Definitions only.
+-- The lines of text that can be read, what each asks for, and the one that is written for it.
+-- Definitions only.
 use Rattle.std.specs.Prelude.{◌≡◌, ℕ, ◌≤◌, min, ◌⊎◌, List, ◌++◌, codes, decimal}
 use Rattle.std.specs.Str.Parse.{IsNumeral, digits_value}
 use Rattle.wire.specs.declared.call.Call.{Call}
@@ -19,7 +20,8 @@ Word word bytes = bytes ≡ word
 
 -- one of the calls that are a word alone
 abbrev pub SomeWord : List ℕ → Type 0
-SomeWord bytes = (Word (codes "can force") bytes ⊎ Word (codes "back") bytes) ⊎ Word (codes "who") bytes
+SomeWord bytes = (Word (codes "can force") bytes ⊎ Word (codes "back") bytes)
+    ⊎ Word (codes "who") bytes
 
 -- a word, and behind it digits that are read as n
 abbrev pub Numbered : List ℕ → ℕ → List ℕ → Type 0

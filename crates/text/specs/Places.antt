@@ -6,8 +6,8 @@ abbrev pub Begins : (List ℕ → Type 0) → List ℕ → Type 0
 Begins F front = (rest : List ℕ) × F (front ++ rest)
 
 -- The bytes are not of the form F, and p is the length of their longest beginning that is the
--- beginning of some row of the form. So p is the place of the first byte that does not fit, or their
--- length where bytes are missing.
+-- beginning of some row of the form. So p is the place of the first byte that does not fit, or
+-- their length where bytes are missing.
 pub record Stops (F : List ℕ → Type 0) (bytes : List ℕ) (p : ℕ) : Type 0 where
   pub none : F bytes → ⊥
   pub within : p ≤ length bytes

@@ -18,4 +18,5 @@ OneAnswer = (bytes : List ℕ) (r s : Result Line ℕ) → Reads bytes r → Rea
 
 -- what is written is read again: every answer to the line that is written for l is l
 abbrev pub ReadBack : Type 0
-ReadBack = (l : Line) → Small l → Asks (asked_by l) l × ((r : Result Line ℕ) → Reads (asked_by l) r → r ≡ Ok l)
+ReadBack = (l : Line) → Small l → Asks (asked_by l) l
+    × ((r : Result Line ℕ) → Reads (asked_by l) r → r ≡ Ok l)

@@ -1,9 +1,8 @@
 pub mod Numbers
 pub mod Stones
-pub mod Ways
 pub mod Leading
 pub mod RhombusWays
-pub mod BoardWays
+pub mod Ways
 pub mod Crossing
 pub mod NeverBoth
 pub mod MustEnd

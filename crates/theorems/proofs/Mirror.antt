@@ -7,7 +7,7 @@ use Rattle.hexboard.specs.Laying.{Renamed, Exchanges, square_rules}
 use Rattle.hexboard.specs.Promise.{Good, across, Turned, TurnedOver}
 use Rattle.theorems.proofs.Stones.{Side}
 use Rattle.theorems.proofs.Leading.{carried_row, carried}
-use Rattle.theorems.proofs.BoardWays.{way_leads, leads_way, of_board, to_board}
+use Rattle.theorems.proofs.Ways.{way_leads, leads_way, of_board, to_board}
 use Rattle.theorems.proofs.Renaming.{force_renamed}
 use Rattle.theorems.proofs.Turning.{turned_on, turned_back, turned_carries}
 use Rattle.theorems.proofs.Squares.{to_game, of_game, position}

@@ -9,7 +9,7 @@ use Rattle.hexboard.specs.Shapes.{has_stone, leads_on, leads, starts, finishes}
 use Rattle.theorems.proofs.Stones.{Against, either_way}
 use Rattle.theorems.proofs.Leading.{LeadsOn, Leads, IsLed, on_parts, row_parts}
 use Rattle.theorems.proofs.RhombusWays.{board_track, stone_parts}
-use Rattle.theorems.proofs.BoardWays.{of_board}
+use Rattle.theorems.proofs.Ways.{of_board}
 use Rattle.theorems.proofs.Crossing.{Next, Walk, stop, step, Bottom, Right, crossing}
 
 -- Cells that are next to each other touch.

@@ -11,7 +11,7 @@ use Rattle.hexboard.proofs.Boards.{good_at}
 use Rattle.theorems.proofs.Stones.{Side, against_other, either_way, empty_counts}
 use Rattle.theorems.proofs.Leading.{LeadsOn, IsLed, on_from, row_from}
 use Rattle.theorems.proofs.RhombusWays.{board_track, stone_from}
-use Rattle.theorems.proofs.BoardWays.{to_board}
+use Rattle.theorems.proofs.Ways.{to_board}
 use Rattle.theorems.proofs.Cells.{Cell, Near, along}
 use Rattle.theorems.proofs.Line.{On, Led, first, more, led_end, OnBoard, Across, one_connects}
 

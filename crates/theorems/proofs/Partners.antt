@@ -2,9 +2,9 @@
 use Rattle.std.proofs.Common.{◌≡◌, ℕ, ◌+◌, ◌-◌, ◌*◌, ◌/◌, ◌%◌, ◌<◌, ◌≤◌, false, leb, ◌≢◌, ◌⊎◌, sym, refl, ap, ◌∙◌, inl, inr, ⊎_elim, arith}
 use Rattle.std.proofs.lemmas.Bool.{lt-ltb, le-ltb, le-leb, cases_lt}
 use Rattle.std.proofs.lemmas.Bool.Decides.{nat_tests}
-use Rattle.std.proofs.lemmas.Nat.{div_below, mod_below, mul-add-lt, div-mul-add, mod-mul-add, div-add-mod'}
+use Rattle.std.proofs.lemmas.Nat.{mul-add-lt, div-mul-add, mod-mul-add, div-add-mod'}
 use Rattle.theorems.specs.Shorter.{Place, flip, across_diagonal, partner_place, place_of, cell_at, partner, PartnersPairOff}
-use Rattle.theorems.proofs.RhombusWays.{some_width}
+use Rattle.theorems.proofs.RhombusWays.{row_below, column_below}
 
 -- A place is told by its row and column.
 pub same_place : (p q : Place) → p.row ≡ q.row → p.column ≡ q.column → p ≡ q
@@ -122,41 +122,35 @@ module _ (w t : ℕ) where
   partner_at i p e = ap (λ q. cell_at w (partner_place w t q)) e
 
   module _ (i : ℕ) (h : i < w * t) where
-    row_on : (place_of w i).row < t
-    row_on = div_below i w t (some_width w t i h) (omega arith)
-
-    column_on : (place_of w i).column < w
-    column_on = mod_below i w (some_width w t i h)
-
     partner_on : partner w t i < w * t
     unfolding partner
     partner_on =
         let q = partner_place w t (place_of w i) in
-        let on = place_on (place_of w i) row_on column_on in
+        let on = place_on (place_of w i) (row_below w t i h) (column_below w t i h) in
         mul-add-lt q.row w q.column t on.0 on.1
 
     partner_back : partner w t (partner w t i) ≡ i
     partner_back =
         let p = place_of w i in
         let q = partner_place w t p in
-        let at : place_of w (partner w t i) ≡ q = ap (place_of w) (partner_at i p refl) ∙ place_at q (place_on p row_on column_on).1 in
-        partner_at (partner w t i) q at ∙ (ap (cell_at w) (place_back p row_on column_on) ∙ div-add-mod' i w)
+        let at : place_of w (partner w t i) ≡ q = ap (place_of w) (partner_at i p refl) ∙ place_at q (place_on p (row_below w t i h) (column_below w t i h)).1 in
+        partner_at (partner w t i) q at ∙ (ap (cell_at w) (place_back p (row_below w t i h) (column_below w t i h)) ∙ div-add-mod' i w)
 
     -- A cell that is its own partner has a place that is.
     own_place : partner w t i ≡ i → partner_place w t (place_of w i) ≡ place_of w i
     own_place e =
         let p = place_of w i in
         let q = partner_place w t p in
-        sym (place_at q (place_on p row_on column_on).1) ∙ (ap (place_of w) (sym (partner_at i p refl)) ∙ ap (place_of w) e)
+        sym (place_at q (place_on p (row_below w t i h) (column_below w t i h)).1) ∙ (ap (place_of w) (sym (partner_at i p refl)) ∙ ap (place_of w) e)
 
     -- On a board wider than tall a cell up to column t is in a pair, and on one taller than wide a cell up to row w.
     pub paired_wide : t < w → i % w ≤ t → partner w t i ≢ i
     paired_wide wider c e =
-        let p = place_of w i in apart t p row_on c (sym (wide_place p wider) ∙ own_place e)
+        let p = place_of w i in apart t p (row_below w t i h) c (sym (wide_place p wider) ∙ own_place e)
 
     pub paired_tall : w < t → i / w ≤ w → partner w t i ≢ i
     paired_tall taller r e =
-        let p = place_of w i in apart w (flip p) column_on r (ap flip (sym (tall_place p taller) ∙ own_place e))
+        let p = place_of w i in apart w (flip p) (column_below w t i h) r (ap flip (sym (tall_place p taller) ∙ own_place e))
 
 pub partners_pair_off : PartnersPairOff
 partners_pair_off w t = record { on = partner_on w t; back = partner_back w t }

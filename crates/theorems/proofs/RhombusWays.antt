@@ -47,16 +47,22 @@ on_place w t (negsuc r) (pos c) j h = absurd (none-some _ h)
 on_place w t (negsuc r) (negsuc c) j h = absurd (none-some _ h)
 
 -- A board that has a cell is at least one wide.
-pub some_width : (w t i : ℕ) → i < w * t → 0 < w
+some_width : (w t i : ℕ) → i < w * t → 0 < w
 some_width zero t i h = omega arith
 some_width (suc w) t i h = omega arith
 
--- Each cell of the board stands in the row and the column that its quotient and rest name.
+-- A cell of the board is in one of its rows and one of its columns,
+pub row_below : (w t i : ℕ) → i < w * t → i / w < t
+row_below w t i h = div_below i w t (some_width w t i h) (omega arith)
+
+pub column_below : (w t i : ℕ) → i < w * t → i % w < w
+column_below w t i h = mod_below i w (some_width w t i h)
+
+-- those that its quotient and rest name.
 in_place : (w t j : ℕ) → j < w * t → cell_in w t (pos (j / w)) (pos (j % w)) ≡ Some j
 in_place w t j h =
-    let some = some_width w t j h in
-    let d = div_below j w t some (omega arith) in
-    let m = mod_below j w some in
+    let d = row_below w t j h in
+    let m = column_below w t j h in
     let e = div-add-mod' j w in
     grind (arith, nat_tests)
 

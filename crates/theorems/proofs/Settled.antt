@@ -1,7 +1,7 @@
 -- The rules settle every answer, but for which way of the side that has connected is shown, and what is said of forcing.
-use Rattle.std.proofs.Common.{◌≡◌, ℕ, Bool, true, false, List, [], ◌∷◌, map, sym, refl, ap, ◌∙◌, subst, inl, inr, ⊎_elim, arith}
+use Rattle.std.proofs.Common.{◌≡◌, ℕ, Bool, true, false, List, [], ◌∷◌, map, sym, refl, ap, ◌∙◌, subst, inl, inr, ⊎_elim, arith, if◌then◌else◌}
 use Rattle.std.proofs.lemmas.Bool.{cases_eq}
-use Rattle.hexboard.specs.Board.{pick, Board, Connects}
+use Rattle.hexboard.specs.Board.{Board, Connects}
 use Rattle.hexboard.specs.Games.{Game, Call, moves, back, who, can_force, Answer, way, no, after, won, Right, AreRight, no_calls, next_call}
 use Rattle.hexboard.specs.Games.{no_cell, is_over, taken, made, none_made, gone_back, by_way, nobody, forced, has_it, not_forced, many}
 use Rattle.hexboard.specs.Promise.{Good}
@@ -81,7 +81,7 @@ answer_settled can_force good p q =
     (a ∙ sym b, h ∙ sym k)
 
 -- What holds of both values holds of the one that is picked.
-picked : {A : Type 0} (P : A → Type 0) (t : Bool) (u v : A) → P u → P v → P (pick t u v)
+picked : {A : Type 0} (P : A → Type 0) (t : Bool) (u v : A) → P u → P v → P (if t then u else v)
 picked P true u v p q = p
 picked P false u v p q = q
 

@@ -14,7 +14,7 @@ use Rattle.theorems.proofs.NeverBoth.{never_both}
 use Rattle.theorems.proofs.NeverNeither.{never_neither_lem}
 use Rattle.theorems.proofs.Leading.{carried}
 use Rattle.theorems.proofs.RhombusWays.{board_track, track_stays}
-use Rattle.theorems.proofs.BoardWays.{of_board, to_board}
+use Rattle.theorems.proofs.Ways.{of_board, to_board}
 
 -- What can be forced on a board can be forced in the game,
 pub to_game : {s : ℕ} {b : Board} {t : ℕ} → Forces s b t → CanForce (square_rules b.wide) s b.cells t

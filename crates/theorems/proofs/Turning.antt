@@ -1,7 +1,7 @@
 -- Rows and columns exchanged: a board w wide and t tall, turned over, is one t wide and w tall with the sides exchanged.
 use Rattle.std.proofs.Common.{◌≡◌, ℕ, ◌+◌, ◌*◌, ◌/◌, ◌%◌, ◌<◌, true, List, length, sym, ap, ◌∙◌, arith}
 use mathlib.Core.Logic.{⊎_map}
-use Rattle.std.proofs.lemmas.Nat.{div_below, mod_below, mul-add-lt, div-mul-add, mod-mul-add, div-add-mod'}
+use Rattle.std.proofs.lemmas.Nat.{mul-add-lt, div-mul-add, mod-mul-add, div-add-mod'}
 use Rattle.std.proofs.lemmas.Bool.Decides.{nat_tests}
 use Rattle.hexboard.specs.Board as board
 use Rattle.hexboard.specs.Board.{other}
@@ -9,29 +9,23 @@ use Rattle.hexboard.specs.Laying.{opposite_stone, Renamed, Exchanges, IsLawful, 
 use Rattle.hexboard.specs.Shapes.{Shape, next_to, at_first, at_last, shape_rules, starts, finishes, rhombus, turned}
 use Rattle.theorems.proofs.Stones.{Side}
 use Rattle.theorems.proofs.Leading.{Carries, carried}
-use Rattle.theorems.proofs.RhombusWays.{shape_track, board_track, by_places, from_places, some_width, stone_parts, stone_from, track_stays}
+use Rattle.theorems.proofs.RhombusWays.{shape_track, board_track, by_places, from_places, row_below, column_below, stone_parts, stone_from, track_stays}
 use Rattle.theorems.proofs.NeverBoth.{never_both_on}
 use Rattle.theorems.proofs.NeverNeither.{one_leads}
 use Rattle.theorems.proofs.Renaming.{opposite_side}
 
 -- a cell of a board w wide and t tall
 module _ (w t i : ℕ) (h : i < w * t) where
-  row_below : i / w < t
-  row_below = div_below i w t (some_width w t i h) (omega arith)
-
-  column_below : i % w < w
-  column_below = mod_below i w (some_width w t i h)
-
   -- The cell turned over lies in the row that was the column, and in the column that was the row.
   pub turned_row : turned w t i / t ≡ i % w
-  turned_row = div-mul-add (i % w) t (i / w) row_below
+  turned_row = div-mul-add (i % w) t (i / w) (row_below w t i h)
 
   pub turned_column : turned w t i % t ≡ i / w
-  turned_column = mod-mul-add (i % w) t (i / w) row_below
+  turned_column = mod-mul-add (i % w) t (i / w) (row_below w t i h)
 
   -- It is on the board turned over,
   pub turned_on : turned w t i < t * w
-  turned_on = mul-add-lt (i % w) t (i / w) w column_below row_below
+  turned_on = mul-add-lt (i % w) t (i / w) w (column_below w t i h) (row_below w t i h)
 
   -- and turned over again it is the cell itself.
   pub turned_back : turned t w (turned w t i) ≡ i

@@ -1,6 +1,7 @@
 -- Laws of forcing: what holds in every lawful game of laying stones, each law a statement about the
 -- game's rules. Definitions only.
-use Rattle.std.specs.Prelude.{◌≡◌, ℕ, ◌<◌, ◌⊎◌, ◌↔◌, List, length, replicate, slice_index, slice_set}
+use Rattle.std.specs.Prelude.{◌≡◌, ℕ, ◌<◌, ◌⊎◌, ◌↔◌, List, length, replicate, slice_index}
+use Rattle.std.specs.Prelude.{slice_set}
 use Rattle.hexboard.specs.Board.{empties, other}
 use Rattle.hexboard.specs.Laying.{IsSide, Rules, HasWon, CanForce, IsPosition, Renamed}
 

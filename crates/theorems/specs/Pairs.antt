@@ -1,5 +1,5 @@
--- Answering in pairs: the cells are paired off, and who plays so answers a move on one cell of a pair
--- on the other. Definitions only.
+-- Answering in pairs: the cells are paired off, and a move on one cell of a pair is answered on the
+-- other. Definitions only.
 use Rattle.std.specs.Prelude.{◌≡◌, ℕ, ◌<◌, ◌≢◌, ◌⊎◌, List, length, slice_index, slice_set}
 use Rattle.hexboard.specs.Board.{empties, other}
 use Rattle.hexboard.specs.Laying.{Rules, HasWon, IsPosition}
@@ -34,8 +34,8 @@ IsEnough g s partner b =
     (c : List ℕ) → IsPosition g c → empties c ≡ 0 → IsLater b c →
     HasOneOfEach s partner c → HasWon g s c
 
--- WinsAnswering g s answer cells: with the other side to move, side s wins by answering each move of
--- the other on the cell that `answer` gives for it. A value of it says that the answer is always an
+-- WinsAnswering g s answer cells: with the other side to move, side s wins by answering each of its
+-- moves on the cell that `answer` gives for it. A value of it says that the answer is always an
 -- empty cell, and that side s has won when no cell is left.
 pub data WinsAnswering (g : Rules) (s : ℕ) (answer : ℕ → ℕ) : List ℕ → Type 0 where
   won : {cells : List ℕ} → empties cells ≡ 0 → HasWon g s cells → WinsAnswering g s answer cells
@@ -47,7 +47,7 @@ pub data WinsAnswering (g : Rules) (s : ℕ) (answer : ℕ → ℕ) : List ℕ �
       WinsAnswering g s answer (slice_set (slice_set cells i (other s)) (answer i) s)) →
       WinsAnswering g s answer cells
 
--- Each cell is in a pair; of each pair both cells are empty, or neither is and side s has one of them.
+-- Each cell is in a pair; of each pair both cells are empty, or neither is and side s has one.
 abbrev pub IsAnswered : ℕ → (ℕ → ℕ) → List ℕ → Type 0
 IsAnswered s partner cells =
     (i : ℕ) → i < length cells → (partner i ≢ i)

@@ -1,6 +1,7 @@
 -- Boards that are not square: the pairs of cells by which the side with the shorter way plays.
 -- Definitions only.
-use Rattle.std.specs.Prelude.{◌≡◌, ℕ, ◌+◌, ◌-◌, ◌*◌, ◌/◌, ◌%◌, ◌<◌, ◌≢◌, ◌⊎◌, ◌↔◌, List, if◌then◌else◌, replicate, nat_lt, nat_le}
+use Rattle.std.specs.Prelude.{◌≡◌, ℕ, ◌+◌, ◌-◌, ◌*◌, ◌/◌, ◌%◌, ◌<◌, ◌≢◌, ◌⊎◌, ◌↔◌}
+use Rattle.std.specs.Prelude.{List, replicate, if◌then◌else◌, nat_lt, nat_le}
 use Rattle.hexboard.specs.Board.{other}
 use Rattle.hexboard.specs.Laying.{IsSide, IsPosition, CanForce}
 use Rattle.hexboard.specs.Shapes.{shape_rules, rhombus}
@@ -16,10 +17,10 @@ pub record Place : Type 0 where
 abbrev pub flip : Place → Place
 flip p = record { row = p.column; column = p.row }
 
--- On a board t tall and wider than tall: the cells above the rising diagonal from the foot of the left
--- column, those with row + column below t, are the partners of those on it and below it, up to column
--- t. Next to each other stay next to each other, the top row comes to column t and the left column to
--- the bottom row. Columns past t are in no pair. Three tall, with a letter for each pair:
+-- The partner of a place on a board t tall and wider than tall. The cells with row + column below t
+-- are a triangle at the upper left; the others, up to column t, are one at the lower right. Each
+-- cell of the one has its partner in the other: the top row in column t, and the left column in the
+-- bottom row. Columns past t are in no pair. Three tall, with a letter for each pair:
 --
 --     a b c c .
 --      d e e b .
@@ -78,14 +79,14 @@ ShorterCanForce =
     CanForce (shape_rules (rhombus w t)) (shorter_side w t) (replicate (w * t) 0) s
     × (CanForce (shape_rules (rhombus w t)) (other (shorter_side w t)) (replicate (w * t) 0) s → ⊥)
 
--- On a board whose measures differ by one, it wins as the second to move by answering each move on the
--- partner of its cell.
+-- On a board whose measures differ by one, it wins as the second to move by answering each move on
+-- the partner of its cell.
 abbrev pub PartnersAnswer : Type 0
 PartnersAnswer =
     (w t : ℕ) → 0 < w → 0 < t → (w ≡ t + 1) ⊎ (t ≡ w + 1) →
     WinsAnswering (shape_rules (rhombus w t)) (shorter_side w t) (partner w t) (replicate (w * t) 0)
 
--- Whoever is to move on the empty board can force that it connects on squares, and on no other board.
+-- Whoever is to move on the empty board can force that it connects on squares, and on no other.
 abbrev pub FirstExactlyOnSquares : Type 0
 FirstExactlyOnSquares =
     (w t : ℕ) → 0 < w → 0 < t → (w ≡ t ↔ FirstCanForce (shape_rules (rhombus w t)))

@@ -1,5 +1,6 @@
 // What a side can force in any game of laying stones, whatever its board looks like: laws for all
-// lawful rules, each on the contract of a function, and that the board of six-sided cells is lawful.
+// lawful rules, each on the contract of a function, and that the board of six-sided cells is
+// lawful.
 
 ghost use Rattle.std.specs.Prelude.{ℕ, ◌<◌, ◌↔◌, List};
 ghost use Rattle.hexboard.specs.Board.{Board};
@@ -41,8 +42,8 @@ pub fn mover_can_force()
         IsLawful g → Exchanges g g f back → FirstCanForce g }
 {}
 
-/// The board of six-sided cells is a lawful game, and itself with the sides exchanged. Its boards are
-/// the game's positions, and what a side can force on a board is what it can force in the game.
+/// The board of six-sided cells is a lawful game, and itself with the sides exchanged. Its boards
+/// are the game's positions, and what a side can force on a board is what it can force in the game.
 pub fn squares_are_lawful()
     ensures lawful { (n : ℕ) → 0 < n → IsLawful (square_rules n) }
     ensures turned { (n : ℕ) → 0 < n →

@@ -6,9 +6,10 @@ ghost use Rattle.hexboard.specs.Laying.{IsSide, Rules, CanForce, IsPosition};
 ghost use Rattle.theorems.specs.Pairs.{IsPairing, HasOneOrNone, IsEnough, WinsAnswering};
 ghost use Rattle.theorems.specs.Pairs.{IsAnswered};
 
-/// Where one cell of each pair is enough, a side can force that it wins from every position in which
-/// it has one cell of each pair where not both are empty, whoever is to move. If so far each move has
-/// been answered in its pair, to go on answering so is a way to win. This needs no law of the game.
+/// Where one cell of each pair is enough, a side can force that it wins from every position in
+/// which it has one cell of each pair where not both are empty, whoever is to move. If so far each
+/// move has been answered in its pair, to go on answering so is a way to win. This needs no law of
+/// the game.
 pub fn answering_in_pairs()
     ensures theorem { (g : Rules) (s t : ℕ) (partner : ℕ → ℕ) (b : List ℕ) →
         IsSide s → IsSide t → IsPosition g b → IsPairing g.count partner →

@@ -1,6 +1,6 @@
-// Boards w wide and t tall, for every w and t of at least 1: that they are lawful games, that squares
-// are among them, and that on all others the side with the shorter way wins, whoever begins. Each
-// theorem is on the contract of a function.
+// Boards w wide and t tall, for every w and t of at least 1: they are lawful games, squares are
+// among them, and on all others the side with the shorter way wins, whoever begins. Each theorem is
+// on the contract of a function.
 
 ghost use Rattle.std.specs.Prelude.{◌≡◌, ℕ, ◌*◌, ◌<◌, [], ◌∷◌, map, replicate};
 ghost use Rattle.hexboard.specs.Laying.{IsSide, CanForce, IsLawful, Exchanges};
@@ -30,10 +30,10 @@ pub fn squares_are_rhombi()
 {}
 
 /// The partners of the cells are a pairing. On the board five wide and three tall:
-//
-//     a b c c .
-//      d e e b .
-//       f f d a .
+///
+///     a b c c .
+///      d e e b .
+///       f f d a .
 pub fn partners_pair_off()
     ensures theorem { PartnersPairOff }
     ensures drawn { map (partner 5 3)
@@ -42,9 +42,9 @@ pub fn partners_pair_off()
 {}
 
 /// On a board that is not square the side with the shorter way can force that it connects, also if
-/// the other begins; so the other cannot. It can from every position in which it has one cell of each
-/// pair of partners where not both are empty. If width and height differ by one, it wins by answering
-/// each move on the partner of its cell.
+/// the other begins; so the other cannot. It can from every position in which it has one cell of
+/// each pair of partners where not both are empty. If width and height differ by one, it wins by
+/// answering each move on the partner of its cell.
 pub fn shorter_way_wins()
     ensures theorem { ShorterCanForce }
     ensures wide { (w t s : ℕ) → 0 < t → t < w → IsSide s →
@@ -56,8 +56,8 @@ pub fn shorter_way_wins()
     ensures answering { PartnersAnswer }
 {}
 
-/// Whoever begins can force that it connects on squares, and on no other board. On the board one wide
-/// and two tall side 1 has to join top and bottom, and loses though it begins.
+/// Whoever begins can force that it connects on squares, and on no other board. On the board one
+/// wide and two tall side 1 has to join top and bottom, and loses though it begins.
 pub fn first_wins_exactly_on_squares()
     ensures theorem { FirstExactlyOnSquares }
     ensures one_by_two { CanForce (shape_rules (rhombus 1 2)) 1 (replicate 2 0) 1 → ⊥ }

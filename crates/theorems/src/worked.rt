@@ -21,10 +21,10 @@ pub fn search_decides()
 
 /// Seven moves after which nobody has connected: side 1 has no stone in the top row, and side 2's
 /// only one in the right column has none of its own beside it.
-//
-//     2 . 2
-//      2 1 1
-//       1 . 1
+///
+///     2 . 2
+///      2 1 1
+///       1 . 1
 pub fn nobody_has_connected()
     ensures { AreOnlyRight 3 (map moves (4 ∷ 0 ∷ 8 ∷ 2 ∷ 6 ∷ 3 ∷ 5 ∷ []) ++ who ∷ [])
         (map number (0 ∷ 1 ∷ 2 ∷ 3 ∷ 4 ∷ 5 ∷ 6 ∷ 0 ∷ [])) }
@@ -33,10 +33,10 @@ pub fn nobody_has_connected()
 /// Then side 2 connects from the left column to the right column, and no move is made any more. Two
 /// moves are taken back, and side 1 moves to that cell itself: it leads from the top row to the
 /// bottom row, down and to the left.
-//
-//     2 2 2        2 1 2
-//      2 1 1        2 1 .
-//       1 . 1        1 . 1
+///
+///     2 2 2        2 1 2
+///      2 1 1        2 1 .
+///       1 . 1        1 . 1
 pub fn side_one_connects_after_two_taken_back()
     ensures { EndsInShortest 3
         (map moves (4 ∷ 0 ∷ 8 ∷ 2 ∷ 6 ∷ 3 ∷ 5 ∷ []) ++ who ∷ moves 1 ∷ who ∷ moves 7

@@ -1,5 +1,6 @@
 -- Calls and answers as bytes, and what it is to write them.
-use Rattle.std.specs.Prelude.{◌≡◌, ℕ, ◌+◌, ◌*◌, ◌/◌, ◌%◌, ◌<◌, ◌≤◌, List, [], ◌∷◌, ◌++◌, length, take, drop, Some, None, Ok, Err, Option, Result}
+use Rattle.std.specs.Prelude.{◌≡◌, ℕ, ◌+◌, ◌*◌, ◌/◌, ◌%◌, ◌<◌, ◌≤◌, List, [], ◌∷◌, ◌++◌, length}
+use Rattle.std.specs.Prelude.{take, drop, Some, None, Ok, Err, Option, Result}
 use Rattle.std.specs.Borrow.{Bor}
 use Rattle.std.specs.List.{flat_map}
 use Rattle.hexboard.specs.Games as games
@@ -34,10 +35,11 @@ answer_bytes a = shown (told a)
 abbrev pub way_head : Side → ℕ → List ℕ
 way_head side count = in_bytes (way_numbers (sides.number side) count [])
 
--- The bytes bs are put at the front of old: it becomes new, which has the rest as it was, and size is how many they are.
--- If there is no room for them, nothing is written.
+-- The bytes bs are put at the front of old: it becomes new, which has the rest as it was, and size
+-- is how many they are. If there is no room for them, nothing is written.
 abbrev pub Written : List ℕ → List ℕ → List ℕ → Option ℕ → Type 0
-Written bs old new (Some size) = (size ≡ length bs) × (length bs ≤ length old) × (new ≡ bs ++ drop (length bs) old)
+Written bs old new (Some size) = (size ≡ length bs) × (length bs ≤ length old)
+    × (new ≡ bs ++ drop (length bs) old)
 Written bs old new None = (length old < length bs) × (new ≡ old)
 
 -- the same of an answer, unless it has no bytes
@@ -46,6 +48,9 @@ Wrote a old new (Ok size) = Sound a × Written (answer_bytes a) old new (Some si
 Wrote a old new (Err Short) = Sound a × Written (answer_bytes a) old new None
 Wrote a old new (Err NotCells) = (Sound a → ⊥) × (new ≡ old)
 
--- These bytes have the head of a way in front of so many cells: they are that way's bytes, and what may follow.
+-- These bytes have the head of a way in front of so many cells: they are that way's bytes, and what
+-- may follow.
 abbrev pub Headed : Side → ℕ → List ℕ → Type 0
-Headed side count bs = (cells : Bor (List ℕ)) → length cells.now ≡ 2 * count → cells.now ≡ take (2 * count) (drop 5 bs) → take (5 + 2 * count) bs ≡ answer_bytes (Way side cells)
+Headed side count bs = (cells : Bor (List ℕ)) → length cells.now ≡ 2 * count →
+    cells.now ≡ take (2 * count) (drop 5 bs) →
+    take (5 + 2 * count) bs ≡ answer_bytes (Way side cells)

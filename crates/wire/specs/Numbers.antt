@@ -1,5 +1,7 @@
--- The numbers of calls, answers and refusals, and the values that each case holds: what code, bytes and promises have them from.
-use Rattle.std.specs.Prelude.{◌≡◌, ℕ, ◌+◌, ◌%◌, ◌^◌, ◌<◌, List, [], ◌∷◌, length, Some, None, Option, Result, MatchResult, ◌≢◌}
+-- The numbers of calls, answers and refusals, and the values that each case holds: what code, bytes
+-- and promises have them from.
+use Rattle.std.specs.Prelude.{◌≡◌, ℕ, ◌+◌, ◌%◌, ◌^◌, ◌<◌, List, [], ◌∷◌, length, Some, None, Option}
+use Rattle.std.specs.Prelude.{Result, MatchResult, ◌≢◌}
 use Rattle.std.specs.Borrow.{Bor}
 use Rattle.hexboard.specs.Games as games
 use Rattle.wire.specs.declared.answer.Answer.{Answer}
@@ -8,7 +10,8 @@ use Rattle.wire.specs.declared.call.Call.{Call}
 use Rattle.wire.specs.declared.call.Call.TheVariants.{Move, Back, Who, CanForce}
 use Rattle.wire.specs.declared.refusal.NoRefusal.{NoRefusal}
 use Rattle.wire.specs.declared.refusal.Refusal.{Refusal}
-use Rattle.wire.specs.declared.refusal.Refusal.TheVariants.{Unreadable, NoCell, BadSize, SmallMemory, Over, Taken, NoMove}
+use Rattle.wire.specs.declared.refusal.Refusal.TheVariants.{Unreadable, NoCell, BadSize}
+use Rattle.wire.specs.declared.refusal.Refusal.TheVariants.{SmallMemory, Over, Taken, NoMove}
 
 -- A call or an answer in numbers: the number of the case, and the values that the case holds.
 pub record Numbered : Type 0 where
@@ -33,7 +36,8 @@ reason NoMove = record { number = 6; place = 0 }
 abbrev pub ByReason : ℕ × ℕ → Result Refusal NoRefusal → Type 0
 ByReason p r =
     MatchResult r (λ x. ((reason x).number ≡ p.0) × ((reason x).place ≡ p.1))
-    (λ e. (e.number ≡ p.0) × (e.place ≡ p.1) × ((x : Refusal) → (reason x).number ≡ p.0 → (reason x).place ≢ p.1))
+    (λ e. (e.number ≡ p.0) × (e.place ≡ p.1)
+    × ((x : Refusal) → (reason x).number ≡ p.0 → (reason x).place ≢ p.1))
 
 -- a move holds its cell
 abbrev pub call_numbers : Call → Numbered
@@ -69,7 +73,8 @@ pub record Row (bs : List ℕ) : Type 0 where
   pub even : length bs % 2 ≡ 0
   pub few : length bs < 2 ^ 17
 
--- an answer that has bytes: if it is a way, its bytes are a row of cells, and one more than the cell of a yes is a number of two bytes
+-- an answer that has bytes: if it is a way, its bytes are a row of cells, and one more than the
+-- cell of a yes is a number of two bytes
 abbrev pub Sound : InBytes → Type 0
 Sound (Refused why) = Unit {0}
 Sound (Number n) = Unit {0}

@@ -1,5 +1,6 @@
 -- What a row of bytes is: a call, or where it ceases to be one; an answer, or none.
-use Rattle.std.specs.Prelude.{◌≡◌, ℕ, ◌+◌, ◌*◌, ◌<◌, ◌≤◌, cond, List, [], ◌∷◌, ◌++◌, length, take, Some, None, Ok, Err, Option, Result, ◌==◌, ◌≢◌}
+use Rattle.std.specs.Prelude.{◌≡◌, ℕ, ◌+◌, ◌*◌, ◌<◌, ◌≤◌, cond, List, [], ◌∷◌, ◌++◌, length, take}
+use Rattle.std.specs.Prelude.{Some, None, Ok, Err, Option, Result, ◌==◌, ◌≢◌}
 use Rattle.wire.specs.declared.call.Call.{Call}
 use Rattle.wire.specs.declared.call.Call.TheVariants.{Move, Back, Who, CanForce}
 use Rattle.wire.specs.declared.refusal.Refusal.{Refusal}
@@ -23,13 +24,16 @@ read_at_end c (b ∷ bs) = Err (Unreadable 1)
 abbrev pub read : List ℕ → Result Call Refusal
 read [] = Err (Unreadable 0)
 read (n ∷ bs) =
-    cond (n == 0) (read_cell bs) (cond (n == 1) (read_at_end Back bs) (cond (n == 2) (read_at_end Who bs) (cond (n == 3) (read_at_end CanForce bs) (Err (Unreadable 0)))))
+    cond (n == 0) (read_cell bs) (cond (n == 1) (read_at_end Back bs)
+    (cond (n == 2) (read_at_end Who bs) (cond (n == 3) (read_at_end CanForce bs)
+    (Err (Unreadable 0)))))
 
 -- these bytes are the beginning of some call's bytes
 abbrev pub Begins : List ℕ → Type 0
 Begins bs = (c : Call) × (more : List ℕ) × (call_bytes c ≡ bs ++ more)
 
--- The bytes bs are no call, and cease to be one at place p: its longest beginning that is the beginning of some call is p long.
+-- The bytes bs are no call, and cease to be one at place p: its longest beginning that is the
+-- beginning of some call is p long.
 pub record Ceases (bs : List ℕ) (p : ℕ) : Type 0 where
   pub none : (c : Call) → call_bytes c ≢ bs
   pub within : p ≤ length bs

@@ -1,5 +1,6 @@
 // What the desk answers, as values, as bytes and as lines.
-ghost use Rattle.std.specs.Prelude.{◌≡◌, ℕ, ◌<◌, ◌≤◌, ◌∷◌, ◌++◌, length, Some, MatchOption, OnSome, slice_index};
+ghost use Rattle.std.specs.Prelude.{◌≡◌, ℕ, ◌<◌, ◌≤◌, ◌∷◌, ◌++◌, length, Some, MatchOption, OnSome};
+ghost use Rattle.std.specs.Prelude.{slice_index};
 ghost use Rattle.std.specs.List.{flat_map};
 ghost use Rattle.hexboard.specs.Words.{words};
 ghost use Rattle.wire.specs.Bytes.{two, way_head, Written, Wrote, Headed};
@@ -15,8 +16,9 @@ use crate::refusal::Refusal;
 use hexboard::{Side, Words};
 use std::fmt;
 
-// `W` is how the cells of a way are held. Where an answer is bytes, or is made of them, they are `&[u8]`, two bytes a cell, low byte
-// first: a part of the bytes that the answer is written into or read from.
+/// `W` is how the cells of a way are held. Where an answer is bytes, or is made of them, they are
+/// `&[u8]`, two bytes a cell, low byte first: a part of the bytes that the answer is written into
+/// or read from.
 #[derive(Clone, Copy, PartialEq, Eq, Debug)]
 pub enum Answer<W> {
     Refused(Refusal),
@@ -29,17 +31,17 @@ pub enum Answer<W> {
     TooMany,
 }
 
-// Why an answer could not be written.
+/// Why an answer could not be written.
 #[derive(Clone, Copy, PartialEq, Eq, Debug)]
 pub enum Unwritten {
     // There is no room for it.
     Short,
-    // The bytes of a way are no cells: they are odd in number, or more cells than two bytes can count. Or one more than the cell of a yes
-    // is more than two bytes can hold.
+    // The bytes of a way are no cells: they are odd in number, or more cells than two bytes can
+    // count. Or one more than the cell of a yes is more than two bytes can hold.
     NotCells,
 }
 
-// The answer's bytes at the front, and how many they are.
+/// The answer's bytes at the front, and how many they are.
 pub fn write_answer(answer: Answer<&[u8]>, out: &mut [u8]) -> Result<usize, Unwritten>
     ensures { Wrote answer.entry out.old out.new result }
 {
@@ -85,7 +87,7 @@ fn write_way(side: Side, cells: &[u8], out: &mut [u8]) -> Result<usize, Unwritte
     Ok(size)
 }
 
-// What comes before the cells of a way, written in front of cells that stand there already.
+/// What comes before the cells of a way, written in front of cells that stand there already.
 pub fn write_way_head(side: Side, count: u16, out: &mut [u8]) -> Option<usize>
     ensures head { Written (way_head side count) out.old out.new result }
     ensures whole { OnSome result (Headed side count out.new) }
@@ -95,9 +97,10 @@ pub fn write_way_head(side: Side, count: u16, out: &mut [u8]) -> Option<usize>
     put(&[2, a, b, c, d], out)
 }
 
-// How many cells the bytes of a way are, if they are cells.
+/// How many cells the bytes of a way are, if they are cells.
 pub fn count_cells(cells: &[u8]) -> Option<u16>
-    ensures { MatchOption result ((Row cells.now → ⊥)) (λ n. Row cells.now × (n ≡ length (words cells.now))) }
+    ensures { MatchOption result ((Row cells.now → ⊥))
+        (λ n. Row cells.now × (n ≡ length (words cells.now))) }
 {
     if cells.len() % 2 != 0 {
         return None;
@@ -105,7 +108,8 @@ pub fn count_cells(cells: &[u8]) -> Option<u16>
     u16::try_from(cells.len() / 2).ok()
 }
 
-// The answer that the bytes are, where they are one. A way is handed on as the part of the bytes that its cells are.
+/// The answer that the bytes are, where they are one. A way is handed on as the part of the bytes
+/// that its cells are.
 pub fn read_answer(bytes: &[u8]) -> Option<Answer<&[u8]>>
     ensures { Understood bytes.now result }
 {

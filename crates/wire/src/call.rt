@@ -6,6 +6,7 @@ ghost use Rattle.wire.specs.Reading.{read, read_cell, read_at_end, Reads};
 use crate::front::put;
 use crate::refusal::Refusal;
 
+/// What is asked of the desk.
 #[derive(Clone, Copy, PartialEq, Eq, Debug)]
 pub enum Call {
     // A stone of the side to move on this cell.
@@ -18,8 +19,8 @@ pub enum Call {
     CanForce,
 }
 
-// The call that the bytes are, or the first byte that does not fit. Each byte is asked for by a `let .. else` of its own, which says
-// at which place it is missing or too many.
+/// The call that the bytes are, or the first byte that does not fit. Each byte is asked for by a
+/// `let .. else` of its own, which says at which place it is missing or too many.
 pub fn read_call(bytes: &[u8]) -> Result<Call, Refusal>
     ensures value { result ≡ read bytes.now }
     ensures law { Reads bytes.now result }
@@ -36,7 +37,7 @@ pub fn read_call(bytes: &[u8]) -> Result<Call, Refusal>
     }
 }
 
-// The call's bytes at the front, and how many they are; none if there is no room.
+/// The call's bytes at the front, and how many they are; none if there is no room.
 pub fn write_call(call: Call, out: &mut [u8]) -> Option<usize>
     ensures { Written (call_bytes call) out.old out.new result }
 {

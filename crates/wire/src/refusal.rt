@@ -6,6 +6,7 @@ ghost use Rattle.wire.specs.Answers.{refused_line, unknown_line};
 use std::error::Error;
 use std::fmt;
 
+/// The reasons, in the order in which they are checked.
 #[derive(Clone, Copy, PartialEq, Eq, Debug)]
 pub enum Refusal {
     // The call cannot be read; at this byte, the first that does not fit.
@@ -24,9 +25,11 @@ pub enum Refusal {
     NoMove,
 }
 
-// The number of the reason, and the place beside it: of the first byte that does not fit, or which of two reasons with one number.
+// The number of the reason, and the place beside it: of the first byte that does not fit, or which
+// of two reasons with one number.
 impl From<Refusal> for (u16, u16) {
-    ghost from_gives = { λ why pair. (pair.0 ≡ (reason why).number) × (pair.1 ≡ (reason why).place) };
+    ghost from_gives = { λ why pair. (pair.0 ≡ (reason why).number)
+        × (pair.1 ≡ (reason why).place) };
 
     fn from(why: Refusal) -> (u16, u16) {
         match why {
@@ -41,7 +44,8 @@ impl From<Refusal> for (u16, u16) {
     }
 }
 
-// A number and a place that no refusal has. Its line and its trait are written by hand: this crate stands on std and `hexboard` alone.
+/// A number and a place that no refusal has. Its line and its trait are written by hand: this crate
+/// stands on std and `hexboard` alone.
 #[derive(Clone, Copy, PartialEq, Eq, Debug)]
 pub struct NoRefusal {
     pub number: u16,

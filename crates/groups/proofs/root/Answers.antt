@@ -1,4 +1,4 @@
-use Rattle.std.proofs.Common.{sym, ap, ◌∙◌, arith}
+use Rattle.std.proofs.Common.{sym, ap, ◌∙◌, arith, if◌then◌else◌}
 use Rattle.hexboard.specs.Words.{words}
 use Rattle.groups.specs.Forest.{climb}
 use Rattle.hexboard.proofs.TwoBytes.{words_length}

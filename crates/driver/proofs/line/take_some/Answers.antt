@@ -1,4 +1,4 @@
-use Rattle.std.proofs.Common.{◌≡◌, ◌≢◌, ◌++◌, [], inl, inr, sym, subst, append-nil, All}
+use Rattle.std.proofs.Common.{◌≢◌, [], inl, inr, subst, append-nil}
 use Rattle.std.proofs.KnownBytes.{Consumes-nil, Consumes-kept}
 use Rattle.std.proofs.BufReadLemmas.{Consumes_shown}
 use Rattle.std.proofs.lemmas.List.Elements.{All-nil}

@@ -1,10 +1,9 @@
-use Rattle.std.proofs.Common.{◌≡◌, ◌+◌, [], ◌∷◌, ◌++◌, refl, sym, ap, subst, ◌∙◌, rules, arith}
-use Rattle.hexboard.specs.Games as games
+use Rattle.std.proofs.Common.{refl, subst, ◌∙◌, arith}
 use Rattle.driver.specs.Lines.{ReadLine}
-use Rattle.driver.specs.Served.{IsRead, Serves}
+use Rattle.driver.specs.Served.{Serves}
 use Rattle.driver.specs.Tables.{game_on, limits_of, exchange_at}
 use Rattle.driver.proofs.Answering.{is_read_kept}
-use Rattle.driver.proofs.Running.{Running, run_none, run_all, run_unread, run_long, run_more, run_unheard, of_error}
+use Rattle.driver.proofs.Running.{run_none, run_unread, run_long, run_more, run_unheard, of_error}
 use Rattle.driver.proofs.serve.serve_lines.Goals as goal
 
 pub loop-init : goal.loop-init

@@ -1,4 +1,4 @@
-use Rattle.std.proofs.Common.{refl, arith}
+use Rattle.std.proofs.Common.{refl, arith, if◌then◌else◌}
 use Rattle.std.proofs.lemmas.Nat.{and_le_r}
 use Rattle.ranking.proofs.Bits.{cell_le, cell_below}
 use Rattle.endgame.proofs.Choosing.{choosing_none, choosing_better, choosing_as_before, choosing_all}

@@ -1,4 +1,4 @@
-use Rattle.std.proofs.Common.{sym, refl, ap, ◌∙◌, arith}
+use Rattle.std.proofs.Common.{sym, refl, ap, ◌∙◌, arith, if◌then◌else◌}
 use Rattle.hexboard.specs.Words.{words}
 use Rattle.groups.specs.Forest.{held}
 use Rattle.groups.specs.Lent.{before, rest}

@@ -1,7 +1,6 @@
-use Rattle.std.proofs.Common.{◌≡◌, ◌<◌, length, get_or, set, sym, refl, ap, ◌∙◌, inl, rules, arith}
+use Rattle.std.proofs.Common.{◌≡◌, ◌<◌, length, get_or, set, sym, refl, ap, ◌∙◌, inl, rules, arith, if◌then◌else◌}
 use Rattle.std.proofs.lemmas.List.{get_or_default}
 use Rattle.std.proofs.lemmas.Bool.Decides.{nat_tests}
-use Rattle.hexboard.specs.Board.{pick}
 use Rattle.groups.specs.Stones.{forest_of}
 use Rattle.groups.specs.Moves.{stones_of}
 use Rattle.groups.proofs.InTurn.{last_stone}
@@ -48,4 +47,4 @@ returns c =
     served_made c.args.game m c.requires c.args.cell _ _ refl refl on (ap won_by c.in-None.is) bare
     (λ i. set c.args.stones.now (c.from-3.ensures i) ((c.from-2.ensures ∙ turn) i)) c.set_word.ensures.after (omega (arith, c.set_word.auto.bytes))
     (c.place.ensures.grows (stones_of ms) (inl c.requires.kept.stones_are) c.requires.kept.groups_are ∙ ap (forest_of c.args.game.size.n) (last_stone ms _ _ turn)) (search rules)
-    (ap won_by c.then_some.ensures ∙ won_then _ _ ∙ (λ i. pick (c.touches_both.ensures.value i) (turn i) 0))
+    (ap won_by c.then_some.ensures ∙ won_then _ _ ∙ (λ i. if c.touches_both.ensures.value i then turn i else 0))

@@ -1,5 +1,5 @@
 use denote.Enum.Bare.{same_true, same_false}
-use Rattle.std.proofs.Common.{rules, ◌≡◌, ◌*◌, ◌≤◌, sym, ap, ◌∙◌, subst, mul-le-mul, arith}
+use Rattle.std.proofs.Common.{rules, ◌≡◌, ◌*◌, ◌≤◌, sym, ap, ◌∙◌, subst, mul-le-mul, arith, if◌then◌else◌}
 use Rattle.hexboard.specs.Sides.{number}
 use Rattle.hexboard.specs.contracts.side.Side.{the_type}
 use Rattle.endgame.specs.Verdicts.{Judges}

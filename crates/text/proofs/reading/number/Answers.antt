@@ -1,4 +1,4 @@
-use Rattle.std.proofs.Common.{◌≡◌, sym, subst, arith, true-eqb, false-eqb}
+use Rattle.std.proofs.Common.{◌≡◌, sym, subst, arith, true-eqb, false-eqb, if◌then◌else◌}
 use Rattle.std.proofs.lemmas.Result.{err_from_is_err_and}
 use Rattle.text.proofs.Numbers.{Sofar, sofar_more, sofar_all, sofar_stops, empty_stops}
 use Rattle.text.proofs.reading.number.Goals as goal

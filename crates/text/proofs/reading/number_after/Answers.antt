@@ -1,4 +1,4 @@
-use Rattle.std.proofs.Common.{arith, rules}
+use Rattle.std.proofs.Common.{arith, rules, if◌then◌else◌}
 use Rattle.text.proofs.Asked.{short_word, behind}
 use Rattle.text.proofs.reading.number_after.Goals as goal
 

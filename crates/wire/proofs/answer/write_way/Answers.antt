@@ -1,4 +1,4 @@
-use Rattle.std.proofs.Common.{refl, arith}
+use Rattle.std.proofs.Common.{refl, arith, if◌then◌else◌}
 use Rattle.wire.proofs.Rows.{way_long, way_written}
 use Rattle.wire.proofs.answer.write_way.Goals as goal
 

@@ -1,4 +1,4 @@
-use Rattle.std.proofs.Common.{◌≡◌, ◌<◌, rules, tests, arith}
+use Rattle.std.proofs.Common.{◌≡◌, ◌<◌, rules, tests}
 use Rattle.hexboard.specs.Board.{empties}
 use Rattle.session.specs.Desks.{desk_game}
 use Rattle.wire.specs.declared.call.Call.TheVariants.{CanForce}

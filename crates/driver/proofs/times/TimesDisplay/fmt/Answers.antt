@@ -1,4 +1,4 @@
-use Rattle.std.proofs.Common.{◌++◌, get_or, ◌≡◌, ap, refl}
+use Rattle.std.proofs.Common.{get_or, ◌≡◌, ap, refl}
 use Rattle.std.proofs.Output.{has_written_append, has_written_of_eq}
 use Rattle.std.proofs.lemmas.List.{take_more}
 use Rattle.driver.specs.Timed.{name_of, tally_of, tally_line, all_kinds}

@@ -1,4 +1,4 @@
-use Rattle.std.proofs.Common.{◌≡◌, ◌++◌, ◌∷◌, [], Ok, Err, Some, None, Result, OnOk, OnErr, ap, sym, ◌∙◌}
+use Rattle.std.proofs.Common.{◌≡◌, ◌++◌, ◌∷◌, [], Ok, Err, Some, None, Result, OnOk, OnErr, ap, sym, ◌∙◌, if◌then◌else◌}
 use Rattle.std.specs.Result.{result_ok}
 use Rattle.endgame.specs.Cells.{zeros_from}
 use Rattle.endgame.proofs.Numbering.{free_same, free_more, free_beyond, lists_all}

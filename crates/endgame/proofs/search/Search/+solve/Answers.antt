@@ -1,4 +1,4 @@
-use Rattle.std.proofs.Common.{◌≡◌, ℕ, ◌-◌, ◌^◌, ◌<◌, ◌≤◌, refl, sym, ap, ◌∙◌, subst, inl, le_trans, arith, pow_pos, pow_mono}
+use Rattle.std.proofs.Common.{◌≡◌, ℕ, ◌-◌, ◌^◌, ◌<◌, ◌≤◌, refl, sym, ap, ◌∙◌, subst, inl, le_trans, arith, pow_pos, pow_mono, if◌then◌else◌}
 use lib.Bits.{bit_and}
 use Rattle.ranking.specs.Sets.{bit, Within}
 use Rattle.ranking.specs.Positions.{total, place}

@@ -1,4 +1,4 @@
-use Rattle.std.proofs.Common.{sym, ap, ◌∙◌, arith, rules}
+use Rattle.std.proofs.Common.{sym, ap, ◌∙◌, arith, rules, if◌then◌else◌}
 use Rattle.ranking.specs.Sets.{members}
 use Rattle.ranking.proofs.Bits.{cell_le}
 use Rattle.ranking.proofs.Members.{members_none, members_lowest}
