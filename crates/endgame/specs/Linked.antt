@@ -24,7 +24,7 @@ pub record Holds (e : ℕ) (r : ℕ) (P : ℕ → Type 0) : Type 0 where
   pub only : (k : ℕ) → bit k r ≡ 1 → (k < e) × P k
   pub all : (k : ℕ) → k < e → P k → bit k r ≡ 1
 
--- the links of side w tell just what its stones tie together, and to its borders
+-- the links of side w tell exactly what its stones tie together, and to its borders
 pub record Linked (b : Board) (es : List ℕ) (w : ℕ) (l : Links) : Type 0 where
   pub near : (k : ℕ) → k < length es →
       Holds (length es) (slice_index l.near k) (λ j. Tied b w (slice_index es k) (slice_index es j))

@@ -51,7 +51,7 @@ NeverNeither = (b : Board) → Good b → empties b.cells ≡ 0 → Connects b 1
 unfoldable pub FirstWins : Type 0
 FirstWins = (n : ℕ) → 0 < n → Forces 1 (empty n) 1
 
--- 4. One of both: in every position just one of the two can force that it connects.
+-- 4. One of both: in every position exactly one of the two can force that it connects.
 unfoldable pub OneOfBoth : Type 0
 OneOfBoth = (b : Board) (t : ℕ) → Good b → (t ≡ 1) ⊎ (t ≡ 2) → (Forces 1 b t ⊎ Forces 2 b t)
     × (Forces 1 b t → Forces 2 b t → ⊥)

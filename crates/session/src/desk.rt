@@ -48,9 +48,10 @@ pub struct Desk {
     ghost grouped: { Grouped game (lent stones.items log.items parents.items borders.items) },
 }
 
-// So many bytes in memory that has room for no more. Std promises that a vector has the room that
+// So many zeros in memory that has room for no more. Std promises that a vector has the room that
 // is asked for, and not that it has no more: one with more is let go.
 fn bytes(heap: Global, count: usize) -> Result<Vec<u8>, AllocError>
+    ensures zeros { IfOk result (λ v. v.items ≡ replicate count 0) }
     ensures len { IfOk result (λ v. vec_len v ≡ count) }
     ensures capacity { IfOk result (λ v. vec_capacity v ≡ count) }
 {

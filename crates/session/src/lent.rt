@@ -176,11 +176,11 @@ pub fn play<'a, S: Sink>(
     calls: &[&[u8]],
     sink: &mut S,
 ) -> Result<(), Closed<'a>>
-    ensures played { MatchResult result
+    ensures plays { MatchResult result
         (λ _. Plays n (rows_of calls.now) (S.Sink.heard sink.old) (S.Sink.heard sink.new))
         (λ e. (e.memory.now ≡ memory.old) × NotOpened n (length memory.old) e.why
         × (sink.new ≡ sink.old)) }
-    ensures promised { PlaysSuffice }
+    ensures promise { PlaysSuffice }
 {
     let parts = open(n, memory)?;
     let size = Size::new(n).unwrap();
