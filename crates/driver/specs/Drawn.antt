@@ -12,12 +12,18 @@ use Rattle.driver.specs.declared.position.Position.{Position}
 -- the lines of game g with these cells marked: its rows, and who has won
 abbrev pub Draws : games.Game → List ℕ → List ℕ → Type 0
 Draws g marked lines =
-    (winner : Option Side) × Outcome g winner × (lines ≡ board_lines g.board.wide g.board.cells marked ++ (outcome_line winner ++ codes "\n"))
+    (winner : Option Side) × Outcome g winner
+        × (lines ≡ board_lines g.board.wide g.board.cells marked ++
+        (outcome_line winner ++ codes "\n"))
 
--- these are the cells of a right answer to who has connected: those of a shortest way, if somebody has
+-- these are the cells of a right answer to who has connected: those of a shortest way, if somebody
+-- has
 abbrev pub IsShortestWay : games.Game → List ℕ → Type 0
-IsShortestWay g cells = (a : games.Answer) × games.Right g games.who a g × Short g.board a × (cells ≡ shown_by a)
+IsShortestWay g cells = (a : games.Answer) × games.Right g games.who a g × Short g.board a
+    × (cells ≡ shown_by a)
 
 -- the lines of a position, each with its end
 abbrev pub position_lines : Position → List ℕ
-position_lines p = board_lines p.board.size.n p.board.cells.now (words p.board.way.now) ++ (outcome_line p.outcome.0 ++ codes "\n")
+position_lines p =
+    board_lines p.board.size.n p.board.cells.now (words p.board.way.now) ++
+    (outcome_line p.outcome.0 ++ codes "\n")

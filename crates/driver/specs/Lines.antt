@@ -23,13 +23,15 @@ end_bytes InLine = []
 end_bytes LineEnd = 10 ∷ []
 end_bytes InputEnd = []
 
--- a part of a line has a byte, unless it comes to the line's end; at the end of the input it has none
+-- a part of a line has a byte, unless it comes to the line's end; at the end of the input it has
+-- none
 abbrev pub HasPart : Stop → List ℕ → Type 0
 HasPart InLine part = 0 < length part
 HasPart LineEnd part = Unit {0}
 HasPart InputEnd part = part ≡ []
 
--- bytes are a part of a line, and behind it the line's end, where they stop there; the part is kept as far as there is room
+-- bytes are a part of a line, and behind it the line's end, where they stop there; the part is kept
+-- as far as there is room
 pub record Took (old new : ArrayVec ℕ) (bytes : List ℕ) (stop : Stop) : Type 0 where
   pub part : List ℕ
   pub bytes_are : bytes ≡ part ++ end_bytes stop
@@ -43,8 +45,10 @@ Ends None after = ⊤
 Ends (Some xs) None = ⊥
 Ends (Some xs) (Some ys) = (xs ≡ []) × (ys ≡ [])
 
--- bytes were taken from an input, whose bytes are known or not, as above; nothing is taken within a line only where reading can fail
-pub record TookSome (can_break : Bool) (before after : Option (List ℕ)) (old new : ArrayVec ℕ) (stop : Stop) : Type 0 where
+-- bytes were taken from an input, whose bytes are known or not, as above; nothing is taken within a
+-- line only where reading can fail
+pub record TookSome (can_break : Bool) (before after : Option (List ℕ)) (old new : ArrayVec ℕ)
+      (stop : Stop) : Type 0 where
   pub part : List ℕ
   pub consumed : Consumes before after (part ++ end_bytes stop)
   pub no_feed : All (λ b. b ≢ 10) part
@@ -68,7 +72,8 @@ LosesLine (Some xs) (Some ys) line = lines_of xs ≡ line ∷ lines_of ys
 
 -- A line was read, and kept as far as one byte more than the longest line has; or there was none.
 abbrev pub ReadLine : Option (List ℕ) → Option (List ℕ) → ArrayVec ℕ → Bool → Type 0
-ReadLine before after kept true = (line : List ℕ) × LosesLine before after line × (kept.items ≡ take (LONGEST_LINE + 1) line)
+ReadLine before after kept true = (line : List ℕ) × LosesLine before after line
+    × (kept.items ≡ take (LONGEST_LINE + 1) line)
 ReadLine before after kept false = Ends before after
 
 -- a line cannot be read where reading can fail, or where 2 ^ 64 - 1 bytes or more come

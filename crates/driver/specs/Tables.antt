@@ -1,4 +1,5 @@
--- The game that is open at a table, and what a value that tells a reply stands for. Definitions only.
+-- The game that is open at a table, and what a value that tells a reply stands for. Definitions
+-- only.
 use Rattle.std.specs.Prelude.{ℕ, List, Some, None, vec_items, Option, if◌then◌else◌}
 use Rattle.hexboard.specs.Games as games
 use Rattle.wire.specs.Formal as formal
@@ -37,4 +38,5 @@ reply_of (told.Answer a) = answer (formal.told a)
 
 -- what became of a line, with the table after it
 abbrev pub exchange_at : Table → Served ℕ → Exchange
-exchange_at t served = record { asked = served.asked; reply = reply_in (way_of t) served.told; game = game_on t }
+exchange_at t served = record { asked = served.asked; reply =
+    reply_in (way_of t) served.told; game = game_on t }

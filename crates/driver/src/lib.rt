@@ -1,4 +1,5 @@
-// Serves a desk line by line: what is read, what is called, and what is told. The programs share it.
+// Serves a desk line by line: what is read, what is called, and what is told. The programs share
+// it.
 #![tactic(auto)]
 
 mod input;

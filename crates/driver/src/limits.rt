@@ -7,8 +7,8 @@ use hexboard::Size;
 use session::Desk;
 use wire::Call;
 
-/// The largest board that a program serves, and the most empty cells of an end that it looks through. No desk looks through an end of more
-/// than 16 empty cells.
+/// The largest board that a program serves, and the most empty cells of an end that it looks
+/// through. No desk looks through an end of more than 16 empty cells.
 #[derive(Clone, Copy)]
 pub struct Limits {
     pub largest: Size,

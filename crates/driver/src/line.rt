@@ -11,7 +11,8 @@ use std::io::ErrorKind;
 /// The longest line that is served, in bytes without its end.
 pub const LONGEST_LINE: usize = 4096;
 
-/// How many bytes of a line are kept: one more than the longest line has, and one for the carriage return before its end.
+/// How many bytes of a line are kept: one more than the longest line has, and one for the carriage
+/// return before its end.
 pub const ROOM: usize = LONGEST_LINE + 2;
 
 /// The beginning of a line.
@@ -37,14 +38,16 @@ fn line_feed(bytes: &[u8]) -> Option<usize>
 
 // Keeps as many of these bytes as there is room for, behind those that are kept of the line.
 fn extend(line: &mut LineBuffer, bytes: &[u8])
-    ensures { (all : List ℕ) → line.old.items ≡ take ROOM all → line.new.items ≡ take ROOM (all ++ bytes.now) }
+    ensures { (all : List ℕ) → line.old.items ≡ take ROOM all
+        → line.new.items ≡ take ROOM (all ++ bytes.now) }
 {
     let room = ROOM - line.len();
     let count = bytes.len().min(room);
     line.try_extend_from_slice(&bytes[..count]).unwrap();
 }
 
-// Takes a part of a line from the front of these bytes, up to the line's end: how many bytes it is, with that end. No bytes are the end of the input.
+// Takes a part of a line from the front of these bytes, up to the line's end: how many bytes it is,
+// with that end. No bytes are the end of the input.
 fn take_part(line: &mut LineBuffer, bytes: &[u8]) -> (usize, Stop)
     ensures count { result.0 ≤ length bytes.now }
     ensures taken { Took line.old line.new (take result.0 bytes.now) result.1 }
@@ -89,7 +92,8 @@ fn ends_with_return(line: &[u8]) -> bool
     line.ends_with(b"\r")
 }
 
-// Leaves out the carriage return that some files have before each line's end, and what is more than one byte past the longest line.
+// Leaves out the carriage return that some files have before each line's end, and what is more than
+// one byte past the longest line.
 fn trim(line: &mut LineBuffer)
     ensures { (all : List ℕ) → line.old.items ≡ take ROOM all
         → line.new.items ≡ take (LONGEST_LINE + 1) (trimmed all) }
@@ -100,8 +104,8 @@ fn trim(line: &mut LineBuffer)
     line.truncate(LONGEST_LINE + 1);
 }
 
-/// Reads a line, without its end, into the buffer: as far as there is room, and skips the rest. Whether there was one: none comes only at
-/// the end of the input.
+/// Reads a line, without its end, into the buffer: as far as there is room, and skips the rest.
+/// Whether there was one: none comes only at the end of the input.
 pub fn next_line<R: Input>(input: &mut R, line: &mut LineBuffer) -> io::Result<bool>
     ensures read { IfOk result (ReadLine (R.remaining input.old) (R.remaining input.new) line.new) }
     ensures broke { OnErr result (CanFail R.can_break (R.remaining input.old)) }

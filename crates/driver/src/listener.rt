@@ -9,8 +9,8 @@ use std::io;
 
 /// Who hears what lines are answered by.
 pub trait Listener {
-    // it heard these, the oldest first. A relation, since a listener need not keep all that it hears: one that counts agrees with every
-    // list of so many
+    // it heard these, the oldest first. A relation, since a listener need not keep all that it
+    // hears: one that counts agrees with every list of so many
     ghost heard: { Self → List Exchange → Type 0 };
 
     // what it heard last failed, and left it so
@@ -21,7 +21,8 @@ pub trait Listener {
         ensures { (all : List Exchange) → heard self.old all → heard self.new all }
     {}
 
-    /// Hears what became of a line, with the table after it, which stays as it is but for the way that it shows.
+    /// Hears what became of a line, with the table after it, which stays as it is but for the way
+    /// that it shows.
     fn hear(&mut self, served: Served<u16>, table: &mut Table) -> io::Result<()>
         ensures heard { OnOk result ((all : List Exchange) → heard self.old all
             → heard self.new (all ++ exchange_at table.old served ∷ [])) }

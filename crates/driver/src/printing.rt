@@ -120,7 +120,8 @@ impl<W: Write> Refusals<W> {
 }
 
 impl<W: Write> Listener for Refusals<W> {
-    ghost heard = { λ s all. (s.lines ≡ counted (length all)) × IsSomeAnd (W.contents s.out) (Written PrintsRefusal 1 all) };
+    ghost heard = { λ s all. (s.lines ≡ counted (length all))
+        × IsSomeAnd (W.contents s.out) (Written PrintsRefusal 1 all) };
 
     ghost fails = { λ _ _. ⊤ };
 

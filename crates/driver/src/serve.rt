@@ -14,8 +14,8 @@ use std::alloc::Global;
 use std::io;
 use std::io::ErrorKind;
 
-/// Serves each line of an input up to its end, and gives what became of it to the listener before the next one is read. It fails where
-/// the input or the listener does. Nothing is allocated.
+/// Serves each line of an input up to its end, and gives what became of it to the listener before
+/// the next one is read. It fails where the input or the listener does. Nothing is allocated.
 pub fn serve_lines<R: Input, L: Listener>(
     table: &mut Table,
     input: &mut R,

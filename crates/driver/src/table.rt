@@ -12,7 +12,8 @@ use std::alloc::{AllocError, Global};
 use text::{Drawing, Line, Outcome, read_line};
 use wire::{Answer, Call, Refusal};
 
-/// A desk, and whether a board is open on it: before the first line that opens one, no call is served.
+/// A desk, and whether a board is open on it: before the first line that opens one, no call is
+/// served.
 #[derive(Drop)]
 pub struct Table {
     limits: Limits,
@@ -21,7 +22,8 @@ pub struct Table {
     ghost roomy: { largest_of desk ≡ limits.largest.n },
 }
 
-// What a line asks for, if it can be read and is not too long. Else the place of its first byte that does not fit, or is too much.
+// What a line asks for, if it can be read and is not too long. Else the place of its first byte
+// that does not fit, or is too much.
 fn read(line: &[u8]) -> Result<Line, u16>
     ensures { IsRead line.now result }
 {
@@ -54,10 +56,12 @@ impl Table {
         })
     }
 
-    /// Serves a line, given without its end. A line that is longer than `LONGEST_LINE` is refused by its beginning.
+    /// Serves a line, given without its end. A line that is longer than `LONGEST_LINE` is refused
+    /// by its beginning.
     pub fn serve(&mut self, line: &[u8]) -> Served<u16>
         ensures read { IsRead line.now result.asked }
-        ensures served { Serves (limits_of self.old) result.asked (game_on self.old) (reply_in (way_of self.new) result.told) (game_on self.new) }
+        ensures served { Serves (limits_of self.old) result.asked (game_on self.old)
+            (reply_in (way_of self.new) result.told) (game_on self.new) }
         ensures limits { limits_of self.new ≡ limits_of self.old }
     {
         let asked = read(line);
@@ -71,7 +75,8 @@ impl Table {
 
     // Opens a board n wide and n tall.
     fn open(&mut self, n: u16) -> Told<u16>
-        ensures served { Serves (limits_of self.old) (Ok (asks.Board n)) (game_on self.old) (reply_in (way_of self.new) result) (game_on self.new) }
+        ensures served { Serves (limits_of self.old) (Ok (asks.Board n)) (game_on self.old)
+            (reply_in (way_of self.new) result) (game_on self.new) }
         ensures limits { limits_of self.new ≡ limits_of self.old }
     {
         match self.desk.reopen(n) {
@@ -86,7 +91,8 @@ impl Table {
 
     // Serves a call. Where no board is open, there is no call to read.
     fn call(&mut self, call: Call) -> Told<u16>
-        ensures served { Serves (limits_of self.old) (Ok (asks.Call call)) (game_on self.old) (reply_in (way_of self.new) result) (game_on self.new) }
+        ensures served { Serves (limits_of self.old) (Ok (asks.Call call)) (game_on self.old)
+            (reply_in (way_of self.new) result) (game_on self.new) }
         ensures limits { limits_of self.new ≡ limits_of self.old }
     {
         if !self.is_open {
@@ -108,11 +114,13 @@ impl Table {
         }
     }
 
-    /// Finds a shortest way of the side that has connected: how many cells it has, 0 if nobody has connected.
+    /// Finds a shortest way of the side that has connected: how many cells it has, 0 if nobody has
+    /// connected.
     pub fn find_way(&mut self) -> u16
         ensures kept { game_on self.new ≡ game_on self.old }
         ensures limits { limits_of self.new ≡ limits_of self.old }
-        ensures way { IfSome (game_on self.old) (λ g. IsShortestWay g (words (take (2 * result) (way_of self.new)))) }
+        ensures way { IfSome (game_on self.old) (λ g. IsShortestWay g (words (take (2 * result)
+            (way_of self.new)))) }
     {
         match self.desk.who() {
             Some((_, cells)) => cells,
@@ -120,7 +128,8 @@ impl Table {
         }
     }
 
-    /// The position on the board that is open, if one is, with as many cells marked of the way that was found last.
+    /// The position on the board that is open, if one is, with as many cells marked of the way that
+    /// was found last.
     pub fn position(&self, marked: u16) -> Option<Position<'_>>
         ensures { MatchOption result (game_on self.now ≡ None)
             (λ p. IfSome (game_on self.now) (λ g. Draws g (words (take (2 * marked) (way_of self.now))) (position_lines p))) }

@@ -57,7 +57,8 @@ impl fmt::Display for Kind {
     }
 }
 
-// How many lines of a kind came, the nanoseconds that they took in all, and those of the one that took longest.
+// How many lines of a kind came, the nanoseconds that they took in all, and those of the one that
+// took longest.
 #[derive(Clone, Copy)]
 pub struct Tally {
     count: u64,

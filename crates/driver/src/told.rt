@@ -8,7 +8,8 @@ use std::fmt;
 use text::Line;
 use wire::{Answer, Call};
 
-/// What a line is answered by. `W` is how the cells of a way are held: as their number, or as bytes, two a cell, low byte first.
+/// What a line is answered by. `W` is how the cells of a way are held: as their number, or as
+/// bytes, two a cell, low byte first.
 #[derive(Clone, Copy, PartialEq, Eq, Debug)]
 pub enum Told<W> {
     /// A board of this size is open, with no stone on it.
@@ -28,7 +29,8 @@ impl fmt::Display for Told<&[u8]> {
     }
 }
 
-/// What became of a line: what it asks for, or the place at which it is refused; and what it is answered by.
+/// What became of a line: what it asks for, or the place at which it is refused; and what it is
+/// answered by.
 #[derive(Clone, Copy, PartialEq, Eq, Debug)]
 pub struct Served<W> {
     pub asked: Result<Line, u16>,

@@ -12,7 +12,8 @@ use std::env;
 use std::io::{BufReader, BufWriter};
 use timed::Timed;
 
-/// A program: its name, what --help tells of it alone, how far it goes, and the flags that it takes besides --help.
+/// A program: its name, what --help tells of it alone, how far it goes, and the flags that it takes
+/// besides --help.
 #[derive(Clone, Copy)]
 pub struct Program {
     pub name: &'static str,
@@ -79,7 +80,8 @@ fn listen<L: Listener + Drop>(
     }
 }
 
-/// Serves each line of standard input, tells what is refused on standard error, and at the end prints the position on standard output.
+/// Serves each line of standard input, tells what is refused on standard error, and at the end
+/// prints the position on standard output.
 pub fn show_board(rt: &HostRuntime, program: Program) -> anyhow::Result<()> {
     if program.asked(rt)?.is_none() {
         return Ok(rt.print(&program.told())?);
