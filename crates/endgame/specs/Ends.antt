@@ -1,6 +1,7 @@
 -- Ends of games: the empty cells of a board laid with stones, and what is said of wins there.
 -- Definitions only.
-use Rattle.std.specs.Prelude.{◌≡◌, ℕ, suc, ◌+◌, ◌-◌, ◌^◌, ◌<◌, cond, ◌⊎◌, List, [], ◌∷◌, length}
+use Rattle.std.specs.Prelude.{◌≡◌, ℕ, suc, ◌+◌, ◌-◌, ◌^◌, ◌<◌, if◌then◌else◌, ◌⊎◌, List, [], ◌∷◌}
+use Rattle.std.specs.Prelude.{length}
 use Rattle.std.specs.Prelude.{◌==◌, count_ones, slice_index, IfSome}
 use Rattle.hexboard.specs.Board.{Board, at, Connects, put, other}
 use Rattle.hexboard.specs.Games.{Forces}
@@ -36,7 +37,7 @@ lay b f (i ∷ es) = put (lay b (λ k. f (suc k)) es) (f 0) i
 -- on the cells of x, the cells of c empty, and all the other empty cells given to the loser. So a
 -- carried win does not depend on where the loser's stones are.
 unfoldable pub mark : ℕ → ℕ → ℕ → ℕ → ℕ
-mark w x c k = cond (bit k x == 1) w (cond (bit k c == 1) 0 (other w))
+mark w x c k = if bit k x == 1 then w else if bit k c == 1 then 0 else other w
 
 abbrev pub board_within : Board → List ℕ → ℕ → ℕ → ℕ → Board
 board_within b es w x c = lay b (mark w x c) es

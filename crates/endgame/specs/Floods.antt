@@ -4,7 +4,8 @@
 -- next to it, directly or through stones of the side; `first` and `last` are the sets of those at
 -- the side's first and last border, directly or through stones. A set x of these cells are stones
 -- that the side has laid since.
-use Rattle.std.specs.Prelude.{◌≡◌, ℕ, ◌+◌, ◌*◌, ◌^◌, cond, List, bit_and, bit_or, count_ones}
+use Rattle.std.specs.Prelude.{◌≡◌, ℕ, ◌+◌, ◌*◌, ◌^◌, if◌then◌else◌, List, bit_and, bit_or}
+use Rattle.std.specs.Prelude.{count_ones}
 use Rattle.std.specs.Prelude.{nat_lt, slice_index}
 use Rattle.ranking.specs.Sets.{bit, Within}
 use Rattle.endgame.specs.declared.links.Links.{Links}
@@ -50,7 +51,7 @@ pub record Completions (l : Links) (x free r : ℕ) : Type 0 where
 
 -- 1 if two sets have a cell in common, else 0
 abbrev pub common : ℕ → ℕ → ℕ
-common x y = cond (nat_lt 0 (bit_and x y)) 1 0
+common x y = if nat_lt 0 (bit_and x y) then 1 else 0
 
 -- A stone on cell k, with stones x laid before, weighs w: as many free cells as the flood from what
 -- is near it touches, and two more for each border that it or the stones touched by the flood are

@@ -133,7 +133,6 @@ fn parent(parents: &[u8], cell: u16) -> u16
 fn write(borders: &mut [u8], cell: u16, bits: u8)
     ensures { borders.new ≡ slice_set borders.old cell bits }
 {
-    // By its index: after `get_mut` a proof knows how long a slice is, and not what it holds.
     let at = usize::from(cell);
     if at < borders.len() {
         borders[at] = bits;

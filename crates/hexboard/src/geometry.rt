@@ -12,9 +12,7 @@ use std::marker::Model;
 use std::ops::Range;
 
 // The step toward the k-th neighbour of a cell, as rows down and columns to the right: to the
-// right, to the left, below, above, up and to the right, down and to the left. There are six. They
-// are numbers and no enum: a cell's neighbours are counted through, and what is promised of one is
-// promised for each number.
+// right, to the left, below, above, up and to the right, down and to the left. There are six.
 fn step(k: u8) -> Option<(i16, i16)>
     ensures { result ≡ step_to k }
 {
@@ -115,8 +113,7 @@ pub fn directions() -> u8
 }
 
 /// The borders of a side that a cell touches, as two bits: 1 for its first border, 2 for its last.
-/// They stay bits and become no struct of two flags, since they are kept, and joined by `|`, as a
-/// byte of the game's memory.
+/// So they are kept, and joined by `|`, as a byte of the game's memory.
 pub fn borders(size: Size, side: Side, cell: u16) -> u8
     ensures value { result ≡ touch size.n (number side) cell }
     ensures first { IsTrue (begins size.n (number side) cell) ↔ (result % 2 ≡ 1) }

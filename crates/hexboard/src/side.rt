@@ -38,8 +38,7 @@ impl From<Side> for u8 {
     }
 }
 
-/// A number that no side has. Its line and its trait are written by hand: this crate stands on std
-/// alone.
+/// A number that no side has.
 #[derive(Clone, Copy, PartialEq, Eq, Debug)]
 pub struct NoSide(pub u8);
 

@@ -13,8 +13,7 @@ impl Size {
     /// How many cells the largest board has in a row.
     pub const MAX: u16 = 19;
 
-    /// The size, or none if n is out of range. This is `new`, and no `TryFrom`, since that is std's
-    /// name for it, as in `NonZero::new`.
+    /// The size, or none if n is out of range.
     pub fn new(n: u16) -> Option<Size>
         ensures { MatchOption result ((0 < n → n ≤ 19 → ⊥)) (λ s. s.n ≡ n) }
     {

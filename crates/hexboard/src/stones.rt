@@ -34,8 +34,6 @@ pub fn place(cells: &mut [u8], side: Side, cell: u16) -> Result<(), Unplaced>
     ensures fewer { result ≡ Ok tt → empties cells.new + 1 ≡ empties cells.old }
     ensures back { result ≡ Ok tt → slice_set cells.new cell 0 ≡ cells.old }
 {
-    // `get`, and not `get_mut`: of a slice's elements a proof knows nothing once `get_mut` has lent
-    // one.
     let index = usize::from(cell);
     match cells.get(index) {
         None => Err(Unplaced::NoCell),

@@ -52,8 +52,7 @@ impl Iterator for Words<'_> {
     }
 }
 
-/// Writes the number at a place, if there is one; if not, nothing changes. By its bytes, and not as
-/// a pair of them: of what `as_chunks_mut` lends nothing is known afterwards.
+/// Writes the number at a place, if there is one; if not, nothing changes.
 pub fn set_word(bytes: &mut [u8], place: u16, value: u16) -> Option<()>
     ensures told { result ≡ room_at bytes.old place }
     ensures refused { result ≡ None → bytes.new ≡ bytes.old }

@@ -1,7 +1,4 @@
-// Moves made and taken back. The lent memory is a function of the list of moves, byte for byte. Its
-// four parts are passed one by one. As one struct by value, as the groups' two are, they were
-// tried: what the functions here promise can then be proved, but not what the desk promises that
-// lends its vectors so: a proof does not know afterwards what they hold.
+// Moves made and taken back. The lent memory is a function of the list of moves, byte for byte.
 ghost use Rattle.std.specs.Prelude.{◌≡◌, ◌*◌, ◌%◌, ◌==◌, if◌then◌else◌};
 ghost use Rattle.hexboard.specs.Games as games;
 ghost use Rattle.hexboard.specs.Sides.{number};
@@ -26,13 +23,9 @@ pub fn make_move(
     ensures { Settled game (lent stones.old log.old parents.old borders.old) (games.moves cell)
         (λ _. game.count) (lent stones.new log.new parents.new borders.new) result }
 {
-    // A `let .. else`, as the checks behind it are: so all refuse alike, and this one hands on what
-    // stands there.
     let Some(&standing) = stones.get(usize::from(cell)) else {
         return Err(Refusal::NoCell);
     };
-    // This check and the next have no value to hand on; they are `let .. else` so that all three
-    // refuse in the same form.
     let None = game.winner else {
         return Err(Refusal::Over);
     };
@@ -41,10 +34,8 @@ pub fn make_move(
     };
     let side = game.turn();
     Groups { parents, borders }.place(game.size, stones, side, cell);
-    // Not by `hexboard::place`, which would check again what is checked above.
     stones[usize::from(cell)] = u8::from(side);
     let _ = hexboard::set_word(log, game.count, cell);
-    // Each field by name: `..game` is not covered for a struct with a ghost field.
     Ok(Game {
         size: game.size,
         count: game.count + 1,
@@ -64,8 +55,6 @@ pub fn take_back(
     ensures { Settled game (lent stones.old log.old parents.old borders.old) games.back
         (λ h. h.count) (lent stones.new log.new parents.new borders.new) result }
 {
-    // A `let .. else`, as the checks of a move are: it refuses as they do, and hands on the last
-    // move's number.
     let Some(last) = game.count.checked_sub(1) else {
         return Err(Refusal::NoMove);
     };

@@ -9,10 +9,8 @@ use hexboard::{set_word, word};
 
 /// The queue has the cells reached, `count` of them, in their order. Lent bytes hold no `Option`:
 /// for each cell `from` has one more than the cell from which it was reached, and 0 if it was not;
-/// a source, from which the search starts, is listed as reached from itself. That there is room for
-/// each cell of the board is asked by the search, and is no ghost field: the ground would have to
-/// stand here as well, lent, and each function would have to promise, instead of the room, that the
-/// ground stays.
+/// a source, from which the search starts, is listed as reached from itself. The search asks
+/// for room for each cell of the board.
 #[derive(Drop)]
 pub struct Frontier<'a> {
     pub queue: &'a mut [u8],

@@ -41,8 +41,6 @@ pub fn find_way(
     let mut cell = search::search(&ground, &mut frontier)?;
     let mut count = 1;
     let _ = set_word(out, 0, cell);
-    // No plainer by `successors`: its closure would have to ask `is_last` and to hold the frontier
-    // lent.
     while !ground.is_last(cell) {
         cell = frontier.parent(cell).unwrap();
         let _ = set_word(out, count, cell);

@@ -1,5 +1,6 @@
 -- The place of a position among all that can arise in an end of a game. Definitions only.
-use Rattle.std.specs.Prelude.{◌≡◌, ℕ, zero, suc, ◌+◌, ◌-◌, ◌*◌, ◌/◌, ◌%◌, ◌^◌, ◌<◌, cond, ◌⊎◌, ◌==◌}
+use Rattle.std.specs.Prelude.{◌≡◌, ℕ, zero, suc, ◌+◌, ◌-◌, ◌*◌, ◌/◌, ◌%◌, ◌^◌, ◌<◌, if◌then◌else◌}
+use Rattle.std.specs.Prelude.{◌⊎◌, ◌==◌}
 use Rattle.std.specs.Prelude.{nat_le, count_ones}
 use Rattle.ranking.specs.Sets.{Apart}
 
@@ -26,8 +27,8 @@ count k a b = choose k (a + b) * choose (a + b) a
 -- then those with one of mine on it, then those with one of theirs: how many come before all that
 -- begin with m of mine and t of theirs.
 unfoldable pub before : ℕ → ℕ → ℕ → ℕ → ℕ → ℕ
-before k m t a b = cond (m == 1) (count k a b) (cond (t == 1)
-    (count (suc k) a b - count k a (b - 1)) 0)
+before k m t a b = if m == 1 then count k a b
+    else if t == 1 then count (suc k) a b - count k a (b - 1) else 0
 
 -- how many of the ways to lay as many stones on k cells come before this one
 unfoldable pub rank : ℕ → ℕ → ℕ → ℕ
@@ -53,7 +54,7 @@ place e mine theirs = start e (count_ones mine + count_ones theirs) + rank e min
 -- begin there or before, and those with one more do not
 unfoldable pub stones_up_to : ℕ → ℕ → ℕ → ℕ
 stones_up_to e i zero = 0
-stones_up_to e i (suc m) = cond (nat_le (start e (suc m)) i) (suc m) (stones_up_to e i m)
+stones_up_to e i (suc m) = if nat_le (start e (suc m)) i then suc m else stones_up_to e i m
 
 -- how many cells are free in the position at place i
 abbrev pub free_at : ℕ → ℕ → ℕ

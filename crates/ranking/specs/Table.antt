@@ -1,5 +1,6 @@
 -- A table of numbers below 4, four to a byte. Definitions only.
-use Rattle.std.specs.Prelude.{◌≡◌, ℕ, zero, suc, ◌+◌, ◌*◌, ◌/◌, ◌%◌, ◌^◌, cond, ◌==◌, List, length}
+use Rattle.std.specs.Prelude.{◌≡◌, ℕ, zero, suc, ◌+◌, ◌*◌, ◌/◌, ◌%◌, ◌^◌, if◌then◌else◌, ◌==◌, List}
+use Rattle.std.specs.Prelude.{length}
 use Rattle.std.specs.Prelude.{◌≢◌, slice_index}
 
 -- what stands at place i
@@ -15,4 +16,4 @@ pub record Put (t u : List ℕ) (i v : ℕ) : Type 0 where
 -- the sum of f over those of the first m places that have an entry, which is a number that is not 0
 unfoldable pub sum_over_entries : (ℕ → ℕ) → List ℕ → ℕ → ℕ
 sum_over_entries f t zero = 0
-sum_over_entries f t (suc i) = sum_over_entries f t i + cond (entry t i == 0) 0 (f i)
+sum_over_entries f t (suc i) = sum_over_entries f t i + (if entry t i == 0 then 0 else f i)

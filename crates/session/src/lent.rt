@@ -82,8 +82,8 @@ pub fn open(n: u16, memory: &mut [u8]) -> Result<Parts<'_>, Closed<'_>>
 
 /// Takes a call by the rules or turns it away, and writes the answer's bytes to the front of
 /// `answer`: how many they are. None if `answer` has no room for every answer, two bytes for each
-/// cell of the board and 8 more; then nothing changes. The parts come and go by value: behind a
-/// `&mut` two of them could not be lent in one call.
+/// cell of the board and 8 more; then nothing changes.
+/// The parts come and go by value.
 pub fn call<'a>(
     game: Game,
     parts: Parts<'a>,

@@ -1,5 +1,6 @@
 -- What a row of bytes is: a call, or where it ceases to be one; an answer, or none.
-use Rattle.std.specs.Prelude.{◌≡◌, ℕ, ◌+◌, ◌*◌, ◌<◌, ◌≤◌, cond, List, [], ◌∷◌, ◌++◌, length, take}
+use Rattle.std.specs.Prelude.{◌≡◌, ℕ, ◌+◌, ◌*◌, ◌<◌, ◌≤◌, if◌then◌else◌, List, [], ◌∷◌, ◌++◌}
+use Rattle.std.specs.Prelude.{length, take}
 use Rattle.std.specs.Prelude.{Some, None, Ok, Err, Option, Result, ◌==◌, ◌≢◌}
 use Rattle.wire.specs.declared.call.Call.{Call}
 use Rattle.wire.specs.declared.call.Call.TheVariants.{Move, Back, Who, CanForce}
@@ -24,9 +25,9 @@ read_at_end c (b ∷ bs) = Err (Unreadable 1)
 abbrev pub read : List ℕ → Result Call Refusal
 read [] = Err (Unreadable 0)
 read (n ∷ bs) =
-    cond (n == 0) (read_cell bs) (cond (n == 1) (read_at_end Back bs)
-    (cond (n == 2) (read_at_end Who bs) (cond (n == 3) (read_at_end CanForce bs)
-    (Err (Unreadable 0)))))
+    if n == 0 then read_cell bs else if n == 1 then read_at_end Back bs
+    else if n == 2 then read_at_end Who bs else if n == 3 then read_at_end CanForce bs
+    else Err (Unreadable 0)
 
 -- these bytes are the beginning of some call's bytes
 abbrev pub Begins : List ℕ → Type 0

@@ -78,7 +78,7 @@ fn write_way(side: Side, cells: &[u8], out: &mut [u8]) -> Result<usize, Unwritte
 {
     let count = count_cells(cells).ok_or(Unwritten::NotCells)?;
     let size = 5 + cells.len();
-    // The room is asked for before anything is written, and not by `get_mut`, as in `put`.
+    // The room is asked for before anything is written.
     if out.len() < size {
         return Err(Unwritten::Short);
     }

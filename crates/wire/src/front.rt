@@ -6,8 +6,6 @@ pub fn put(bytes: &[u8], out: &mut [u8]) -> Option<usize>
     ensures { Written bytes.now out.old out.new result }
 {
     let size = bytes.len();
-    // This is no `get_mut(..size)?`: once that has lent a part of a slice, a proof knows its length
-    // and not what it holds.
     if out.len() < size {
         return None;
     }

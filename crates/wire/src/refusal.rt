@@ -44,8 +44,7 @@ impl From<Refusal> for (u16, u16) {
     }
 }
 
-/// A number and a place that no refusal has. Its line and its trait are written by hand: this crate
-/// stands on std and `hexboard` alone.
+/// A number and a place that no refusal has.
 #[derive(Clone, Copy, PartialEq, Eq, Debug)]
 pub struct NoRefusal {
     pub number: u16,
