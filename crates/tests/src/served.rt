@@ -147,7 +147,7 @@ fn a_listener_that_fails(rt: HostRuntime) -> Result<(), Fail> {
     let mut input: &[u8] = b"board 3\nmove 0\nmove 1\nmove 2\nwho\n";
     let served = serve_lines(&mut table, &mut input, &mut three);
     assert!(rt; served.is_err());
-    assert!(rt; input == b"move 2\nwho\n");
+    assert!(rt; input == b"move 2\nwho\n".as_slice());
     Ok(())
 }
 
