@@ -49,10 +49,10 @@ goes_on_from b s i j js n h e =
 pub way_parts : (b : Board) (s i : ℕ) (is : List ℕ) → is_way b s (i ∷ is) ≡ true → (begins b.wide s i ≡ true) × Stone b s i × (goes_on b s i is ≡ true)
 way_parts b s i is e =
     let p = row_parts (track b s) i is (way_leads b s (i ∷ is) e) in
-    (begins_starts b.wide s i ∙ p.0, stone_parts s b.cells i p.1, on_same b s i is ∙ p.2)
+    (p.0, stone_parts s b.cells i p.1, on_same b s i is ∙ p.2)
 
 -- And with such a stone it begins.
 pub way_from : (b : Board) (s i : ℕ) (is : List ℕ) → begins b.wide s i ≡ true → Stone b s i → goes_on b s i is ≡ true → is_way b s (i ∷ is) ≡ true
 way_from b s i is f h e =
     leads_way b s (i ∷ is)
-    (row_from (track b s) i is (sym (begins_starts b.wide s i) ∙ f) (stone_from s b.cells i h.0 h.1) (sym (on_same b s i is) ∙ e))
+    (row_from (track b s) i is f (stone_from s b.cells i h.0 h.1) (sym (on_same b s i is) ∙ e))
