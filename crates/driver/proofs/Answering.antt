@@ -1,13 +1,15 @@
 -- What a line is read as, and what serving it at a table answers.
-use Rattle.std.proofs.Common.{◌≡◌, ℕ, ◌+◌, ◌<◌, ◌≤◌, min, List, [], length, take, Bool, true, false, if◌then◌else◌, IfSome, Some, None, Ok, Err, Result, refl, sym, ap, subst, ◌∙◌, ⊎_elim, append-nil, arith}
+use Rattle.std.proofs.Common.{◌≡◌, ℕ, ◌+◌, ◌<◌, ◌≤◌, min, List, [], ◌++◌, length, take, Bool, true, false, if◌then◌else◌, IfSome, IsSomeAnd, Some, None, Ok, Err, Result, refl, sym, ap, subst, ◌∙◌, ⊎_elim, append-nil, arith}
 use Rattle.std.proofs.lemmas.Bool.{cases_lt}
 use Rattle.std.proofs.lemmas.List.{take_min, take_all, take-take, length-take}
 use Rattle.hexboard.specs.Games as games
+use Rattle.hexboard.specs.Words.{words}
 use Rattle.wire.specs.Formal.{asked, shown_by}
 use Rattle.wire.specs.declared.call.Call.{Call}
 use Rattle.wire.specs.declared.refusal.Refusal.{Refusal}
 use Rattle.session.specs.Desks.{RefusesSize}
 use Rattle.session.specs.Short.{Short}
+use Rattle.text.specs.Boards.{board_lines}
 use Rattle.text.specs.Lines.{Asks, Readable}
 use Rattle.text.specs.Places.{Stops}
 use Rattle.text.specs.declared.reading.Line.{Line}
@@ -83,3 +85,14 @@ pub found : (open' : Bool) (g h : games.Game) (a : games.Answer) (cells : List �
     IfSome (if open' then Some g else None) (λ k. IsShortestWay k cells)
 found true g h a cells right short is = (a, subst (λ (k : games.Game). games.Right g games.who a k) (who_keeps right refl) right, short, is)
 found false g h a cells right short is = tt
+
+-- what holds of the game holds of the one that is open
+pub is_open_with : (open' : Bool) (g : games.Game) (P : games.Game → Type 0) → open' ≡ true → P g → IsSomeAnd (if open' then Some g else None) P
+is_open_with true g P e p = p
+is_open_with false g P e p = absurd cc
+
+-- the same board, with the same cells marked, is drawn alike
+pub same_lines : {n m : ℕ} {cells stones way marked : List ℕ} (rest : List ℕ) → n ≡ m → cells ≡ stones → way ≡ marked →
+    board_lines n cells (words way) ++ rest ≡ board_lines m stones (words marked) ++ rest
+same_lines {n} {m} {cells} {stones} {way} {marked} rest wide same is =
+    ap (λ k. board_lines k cells (words way) ++ rest) wide ∙ ap (λ c. board_lines m c (words way) ++ rest) same ∙ ap (λ w. board_lines m stones (words w) ++ rest) is

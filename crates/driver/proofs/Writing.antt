@@ -35,10 +35,10 @@ pub draws_none : (o : Option games.Game) (P : games.Game → Type 0) → o ≡ N
 draws_none None P e = tt
 draws_none (Some g) P e = absurd cc
 
-pub draws : (o k : Option games.Game) (cells drawing : List ℕ) → k ≡ o → IfSome o (λ g. IsShortestWay g cells) → IfSome k (λ g. Draws g cells drawing) →
+pub draws : (o k : Option games.Game) (cells drawing : List ℕ) → k ≡ o → IfSome o (λ g. IsShortestWay g cells) → IsSomeAnd k (λ g. Draws g cells drawing) →
     IfSome o (λ g. (cells : List ℕ) × IsShortestWay g cells × Draws g cells drawing)
 draws None k cells drawing same way drawn = tt
-draws (Some g) k cells drawing same way drawn = (cells, way, subst (λ j. IfSome j (λ g. Draws g cells drawing)) same drawn)
+draws (Some g) k cells drawing same way drawn = (cells, way, subst (λ j. IsSomeAnd j (λ g. Draws g cells drawing)) same drawn)
 
 pub shows_one : (x : Exchange) (drawing : List ℕ) → LeadsOn x.asked x.reply → DrawsGame x drawing → ShowsPosition x drawing
 shows_one x drawing leads drawn = (λ _. drawn, λ no'. absurd (no' leads))

@@ -36,7 +36,7 @@ fn read(line: &[u8]) -> Result<Line, u16>
 }
 
 impl Table {
-    ghost use Rattle.std.specs.Prelude.{◌*◌, None, Ok, IfOk, IfSome, MatchOption, take};
+    ghost use Rattle.std.specs.Prelude.{◌*◌, None, Ok, IfOk, IfSome, IsSomeAnd, MatchOption, take};
     ghost use Rattle.hexboard.specs.Words.{words};
     ghost use Rattle.text.specs.declared.reading.Line.TheVariants as asks;
     ghost use Rattle.driver.specs.Drawn.{Draws, IsShortestWay, position_lines};
@@ -132,7 +132,8 @@ impl Table {
     /// was found last.
     pub fn position(&self, marked: u16) -> Option<Position<'_>>
         ensures { MatchOption result (game_on self.now ≡ None)
-            (λ p. IfSome (game_on self.now) (λ g. Draws g (words (take (2 * marked) (way_of self.now))) (position_lines p))) }
+            (λ p. IsSomeAnd (game_on self.now) (λ g. Draws g
+            (words (take (2 * marked) (way_of self.now))) (position_lines p))) }
     {
         if !self.is_open {
             return None;
