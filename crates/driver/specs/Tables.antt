@@ -1,10 +1,10 @@
 -- The game that is open at a table, and what a value that tells a reply stands for. Definitions
 -- only.
-use Rattle.std.specs.Prelude.{ℕ, List, Some, None, vec_items, Option, if◌then◌else◌}
+use Rattle.std.specs.Prelude.{ℕ, List, [], Some, None, vec_items, Option, if◌then◌else◌}
 use Rattle.hexboard.specs.Games as games
 use Rattle.wire.specs.Formal as formal
 use Rattle.session.specs.Desks.{desk_game}
-use Rattle.session.specs.Replies.{replied}
+use Rattle.session.specs.Replies.{replied, way_bytes}
 use Rattle.driver.specs.Served.{Reply, opened, answer}
 use Rattle.driver.specs.Exchanged.{Exchange}
 use Rattle.driver.specs.declared.limits.Limits.{Limits}
@@ -35,6 +35,11 @@ reply_in way (told.Answer a) = answer (replied a way)
 abbrev pub reply_of : Told (Bor (List ℕ)) → Reply
 reply_of (told.Opened n) = opened n
 reply_of (told.Answer a) = answer (formal.told a)
+
+-- the bytes of the cells that it shows as a way
+abbrev pub shown_bytes : Told (Bor (List ℕ)) → List ℕ
+shown_bytes (told.Opened n) = []
+shown_bytes (told.Answer a) = way_bytes a
 
 -- what became of a line, with the table after it
 abbrev pub exchange_at : Table → Served ℕ → Exchange

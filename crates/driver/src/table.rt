@@ -36,12 +36,13 @@ fn read(line: &[u8]) -> Result<Line, u16>
 }
 
 impl Table {
-    ghost use Rattle.std.specs.Prelude.{◌*◌, None, Ok, IfOk, IfSome, IsSomeAnd, MatchOption, take};
+    ghost use Rattle.std.specs.Prelude.{◌*◌, ◌%◌, None, Ok, IfOk, IfSome, IsSomeAnd, MatchOption, length};
+    ghost use Rattle.std.specs.Prelude.{take};
     ghost use Rattle.hexboard.specs.Words.{words};
     ghost use Rattle.text.specs.declared.reading.Line.TheVariants as asks;
     ghost use Rattle.driver.specs.Drawn.{Draws, IsShortestWay, position_lines};
     ghost use Rattle.driver.specs.Served.{Serves};
-    ghost use Rattle.driver.specs.Tables.{game_on, limits_of, way_of, reply_in, reply_of};
+    ghost use Rattle.driver.specs.Tables.{game_on, limits_of, way_of, reply_in, reply_of, shown_bytes};
 
     /// A table with no board on it. All memory that it will ever need is asked for here.
     pub fn new(heap: Global, limits: Limits) -> Result<Table, AllocError>
@@ -106,7 +107,8 @@ impl Table {
 
     /// The reply that a value is that this table told last, with its way, if it has one.
     pub fn told(&self, told: Told<u16>) -> Told<&[u8]>
-        ensures { reply_of result ≡ reply_in (way_of self.now) told }
+        ensures value { reply_of result ≡ reply_in (way_of self.now) told }
+        ensures whole { length (shown_bytes result) % 2 ≡ 0 }
     {
         match told {
             Told::Opened(n) => Told::Opened(n),

@@ -1,4 +1,4 @@
-use Rattle.std.proofs.Common.{◌≡◌, take, ap, ◌∙◌, rules, if◌then◌else◌}
+use Rattle.std.proofs.Common.{◌≡◌, take, ap, ◌∙◌, rules}
 use Rattle.std.specs.Io.BufRead.{strip_last}
 use Rattle.driver.proofs.Keeping.{trim_kept}
 use Rattle.driver.proofs.line.trim.Goals.{then-ends_with_return, else-ends_with_return}

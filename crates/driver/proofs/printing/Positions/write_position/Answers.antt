@@ -1,4 +1,4 @@
-use Rattle.std.proofs.Common.{[], sym, ◌∙◌, true≢false, if◌then◌else◌}
+use Rattle.std.proofs.Common.{[], sym, ◌∙◌, true≢false}
 use Rattle.std.proofs.KnownBytes.{Appends-nil}
 use Rattle.driver.specs.Tables.{game_on, exchange_at, way_of}
 use Rattle.driver.proofs.Writing.{more_made, leads_nowhere, draws_none, draws, shows_one}

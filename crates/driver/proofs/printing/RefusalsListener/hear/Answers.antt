@@ -9,7 +9,7 @@ returns-in_ok-writeln-clause-heard g c = λ all was.
     let x = exchange_at c.args.table.now c.args.served in (
       c.saturating_add-number.ensures ∙ counted_more all x c.args.self.now.lines was.0,
       refusal_more _ _ all x c.saturating_add-number.result _ _ c.in_ok-writeln.ensures.bytes (c.saturating_add-number.ensures ∙ number_is all c.args.self.now.lines was.0)
-          (ap reply_line c.told-told.ensures) (simp append_assoc) ((c.is_refused.ensures (way_of c.args.table.now)).0 c.if-is_refused.true) was.1,
+          (ap reply_line c.told-told.ensures.value) (simp append_assoc) ((c.is_refused.ensures (way_of c.args.table.now)).0 c.if-is_refused.true) was.1,
     )
 
 pub returns-else-is_refused-clause-heard : goal.returns-else-is_refused-clause-heard

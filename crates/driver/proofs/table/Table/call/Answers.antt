@@ -1,4 +1,4 @@
-use Rattle.std.proofs.Common.{sym, ◌∙◌, true≢false, if◌then◌else◌}
+use Rattle.std.proofs.Common.{sym, ◌∙◌, true≢false}
 use Rattle.session.specs.Desks.{desk_game}
 use Rattle.driver.proofs.Answering.{closed, put_off, answered}
 use Rattle.driver.proofs.table.Table.call.Goals as goal
