@@ -20,7 +20,8 @@ pub trait Input: BufRead {
         ensures end { IfSome (Self.remaining self.old)
             (λ xs. IfOk result (λ s. length s.now ≡ 0 → xs ≡ [])) }
         ensures* after_borrow { sem 𝓛 (Rests Self.row self.entry (λ new.
-            FillKeeps (Self.remaining self.old) (Self.remaining new) (Self.consumable_len new) result)) }
+            FillKeeps (Self.remaining self.old) (Self.remaining new)
+            (Self.consumable_len new) result)) }
         ensures broke { OnErr result (IsTrue can_break) };
 }
 

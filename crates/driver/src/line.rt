@@ -72,7 +72,8 @@ fn take_part(line: &mut LineBuffer, bytes: &[u8]) -> (usize, Stop)
 // Takes what is at hand of a line, up to its end, and waits for input only where nothing is.
 fn take_some<R: Input>(input: &mut R, line: &mut LineBuffer) -> io::Result<Stop>
     ensures taken { IfOk result (λ stop.
-        TookSome R.can_break (R.remaining input.old) (R.remaining input.new) line.old line.new stop) }
+        TookSome R.can_break (R.remaining input.old) (R.remaining input.new)
+        line.old line.new stop) }
     ensures broke { OnErr result (IsTrue R.can_break) }
 {
     let bytes = match input.fill() {

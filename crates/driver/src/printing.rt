@@ -18,7 +18,7 @@ pub struct Answers<W> {
 }
 
 impl<W: Write> Answers<W> {
-    /// Writes to `out`, of which nothing has been written yet.
+    /// Writes to `out`. What is written is promised from here on, if nothing was written before.
     pub fn new(out: W) -> Answers<W>
         ensures { result.out ≡ out }
     {
@@ -53,7 +53,7 @@ pub struct Positions<W> {
 }
 
 impl<W: Write> Positions<W> {
-    /// Writes to `out`, of which nothing has been written yet.
+    /// Writes to `out`. What is written is promised from here on, if nothing was written before.
     pub fn new(out: W) -> Positions<W>
         ensures { result.out ≡ out }
     {
@@ -107,7 +107,8 @@ pub struct Refusals<W> {
 }
 
 impl<W: Write> Refusals<W> {
-    /// Writes to `out`, before the first line.
+    /// Writes to `out`, before the first line. What is written is promised from here on, if nothing
+    /// was written before.
     pub fn new(out: W) -> Refusals<W>
         ensures out { result.out ≡ out }
         ensures none { result.lines ≡ 0 }

@@ -123,6 +123,7 @@ impl Table {
         ensures limits { limits_of self.new ≡ limits_of self.old }
         ensures way { IfSome (game_on self.old)
             (λ g. IsShortestWay g (words (take (2 * result) (way_of self.new)))) }
+        ensures counted { result ≡ length (words (take (2 * result) (way_of self.new))) }
     {
         match self.desk.who() {
             Some((_, cells)) => cells,

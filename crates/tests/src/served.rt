@@ -119,9 +119,11 @@ fn refusals_of_lines(rt: HostRuntime) -> Result<(), Fail> {
     Ok(())
 }
 
-// A listener that counts, and fails at the third line.
+// A listener that counts how often it was told of a line that comes, and of what became of one; it
+// fails at the third.
 #[derive(Drop)]
 struct Three {
+    begun: u64,
     lines: u64,
 }
 
@@ -129,6 +131,10 @@ impl Listener for Three {
     ghost heard = { λ _ _. Unit {0} };
 
     ghost fails = { λ _ _. Unit {0} };
+
+    fn begin(&mut self) {
+        self.begun = self.begun.saturating_add(1);
+    }
 
     fn hear(&mut self, _served: Served<u16>, _table: &mut Table) -> io::Result<()> {
         self.lines = self.lines.saturating_add(1);
@@ -139,14 +145,15 @@ impl Listener for Three {
     }
 }
 
-// No line is read once the listener has failed.
+// Each line is begun before it is heard, and none is read once the listener has failed.
 #[test]
 fn a_listener_that_fails(rt: HostRuntime) -> Result<(), Fail> {
     let mut table = Table::new(rt.alloc(), small_limits()?)?;
-    let mut three = Three { lines: 0 };
+    let mut three = Three { begun: 0, lines: 0 };
     let mut input: &[u8] = b"board 3\nmove 0\nmove 1\nmove 2\nwho\n";
     let served = serve_lines(&mut table, &mut input, &mut three);
     assert!(rt; served.is_err());
+    assert!(rt; three.begun == 3 && three.lines == 3);
     assert!(rt; input == b"move 2\nwho\n".as_slice());
     Ok(())
 }
