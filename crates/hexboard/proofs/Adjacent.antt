@@ -1,5 +1,5 @@
 -- The six neighbours of a cell are the cells that are next to it, and the bits of its borders are the borders it touches.
-use Rattle.std.proofs.Common.{◌≡◌, ℕ, zero, suc, ◌+◌, ◌*◌, ◌/◌, ◌%◌, ◌<◌, ◌↔◌, Bool, true, false, ◌||◌, ℤ, pos, negsuc, ◌+ℤ◌, IfSome, Some, None, Decides, Option, sym, refl, ap, ◌∙◌, arith, lit<}
+use Rattle.std.proofs.Common.{◌≡◌, ℕ, zero, suc, ◌+◌, ◌*◌, ◌/◌, ◌%◌, ◌<◌, ◌≤◌, ◌↔◌, Bool, true, false, ◌||◌, ℤ, pos, negsuc, ◌+ℤ◌, [], IfSome, Some, None, Decides, Option, sym, refl, ap, ◌∙◌, arith, lit<}
 use Rattle.std.proofs.lemmas.Bool.Decides.{nat_tests, same_from_decides}
 use Rattle.std.proofs.lemmas.Bool.{lt-ltb}
 use Rattle.std.proofs.lemmas.Int.{ints}
@@ -7,8 +7,8 @@ use Rattle.std.proofs.lemmas.Option.{none-some}
 use Rattle.std.proofs.lemmas.Nat.{div-mul-add, mod-mul-add, mul-add-lt, div-add-mod', div_below, mod_below}
 use Rattle.hexboard.specs.Board.{right_of, below, up_right, next_to, begins, ends}
 use Rattle.std.specs.List.{Contains}
-use Rattle.hexboard.specs.Geometry.{cell_of, step_to, toward, neighbour_of, neighbours, Beside, AllNeighbours, touch}
-use Rattle.hexboard.proofs.Given.{given_only, given_all}
+use Rattle.hexboard.specs.Geometry.{cell_of, step_to, toward, neighbour_at, neighbour_of, neighbours, given, Beside, AllNeighbours, touch}
+use Rattle.hexboard.proofs.Given.{given_none, given_same, given_only, given_all}
 
 -- A board that has a cell is at least one wide.
 pub some_width : (n i : ℕ) → i < n * n → 0 < n
@@ -127,6 +127,21 @@ neighbours_beside n i j = (to, from)
 
     from : Contains (neighbours n i) j → Beside n i j
     from h = let (d, low, high, is) = given_only (neighbour_of n i) 6 0 j h in neighbour_beside n i d j is
+
+-- What lies around the row and the column of a cell of the board are its neighbours; a cell that is not on the board has none.
+pub neighbour_here : (n i k : ℕ) → i < n * n → neighbour_at n (i / n) (i % n) k ≡ neighbour_of n i k
+unfolding neighbour_of
+neighbour_here n i k h = rw (lt-ltb i (n * n) h) refl
+
+pub neighbour_past : (n i k : ℕ) → n * n ≤ i → neighbour_of n i k ≡ None
+unfolding neighbour_of
+neighbour_past n i k h = grind (arith, nat_tests)
+
+pub neighbours_here : (n i : ℕ) → i < n * n → given (neighbour_at n (i / n) (i % n)) 0 6 ≡ neighbours n i
+neighbours_here n i h = given_same (neighbour_at n (i / n) (i % n)) (neighbour_of n i) 0 6 (λ k. neighbour_here n i k h)
+
+pub neighbours_past : (n i : ℕ) → n * n ≤ i → neighbours n i ≡ []
+neighbours_past n i h = given_none (neighbour_of n i) 0 6 (λ k low high. neighbour_past n i k h)
 
 -- There are six.
 pub neighbour_below : (n i k j : ℕ) → neighbour_of n i k ≡ Some j → k < 6

@@ -27,10 +27,15 @@ abbrev pub toward : ℕ → ℕ → ℕ → Option (ℤ × ℤ) → Option ℕ
 toward n r c None = None
 toward n r c (Some (down, right)) = cell_of n (pos r +ℤ down) (pos c +ℤ right)
 
+-- the k-th neighbour of the cell in row r and column c. None where the board ends there, and from
+-- k = 6 on
+abbrev pub neighbour_at : ℕ → ℕ → ℕ → ℕ → Option ℕ
+neighbour_at n r c k = toward n r c (step_to k)
+
 -- the k-th neighbour of cell i. None where the board ends there, for a cell that is not on the
 -- board, and from k = 6 on
 unfoldable pub neighbour_of : ℕ → ℕ → ℕ → Option ℕ
-neighbour_of n i k = if nat_lt i (n * n) then toward n (i / n) (i % n) (step_to k) else None
+neighbour_of n i k = if nat_lt i (n * n) then neighbour_at n (i / n) (i % n) k else None
 
 -- the cells that there are among those that `next` may give for k and the m - 1 numbers after it
 unfoldable pub given : (ℕ → Option ℕ) → ℕ → ℕ → List ℕ

@@ -1,9 +1,10 @@
 // Which cells are next to each other, and which borders of a side a cell touches.
-ghost use Rattle.std.specs.Prelude.{◌≡◌, ℕ, ◌/◌, ◌%◌, ◌<◌, ◌↔◌, IfSome, Some, IsTrue, Contains};
+ghost use Rattle.std.specs.Prelude.{◌≡◌, ℕ, ◌*◌, ◌/◌, ◌%◌, ◌<◌, ◌≤◌, ◌↔◌, IfSome, Some, IsTrue, Contains};
+ghost use Rattle.std.specs.Prelude.{MatchOption};
 ghost use Rattle.std.specs.Iterator.{YieldsFirst, item_count};
 ghost use Rattle.hexboard.specs.Board.{next_to, begins, ends};
-ghost use Rattle.hexboard.specs.Geometry.{cell_of, step_to, neighbour_of, neighbours, Beside};
-ghost use Rattle.hexboard.specs.Geometry.{AllNeighbours, touch};
+ghost use Rattle.hexboard.specs.Geometry.{cell_of, step_to, neighbour_at, neighbour_of, neighbours};
+ghost use Rattle.hexboard.specs.Geometry.{AllNeighbours, Beside, touch};
 ghost use Rattle.hexboard.specs.Sides.{number};
 
 use crate::side::Side;
@@ -13,7 +14,7 @@ use std::ops::Range;
 
 // The step toward the k-th neighbour of a cell, as rows down and columns to the right: to the
 // right, to the left, below, above, up and to the right, down and to the left. There are six.
-fn step(k: u8) -> Option<(i16, i16)>
+fn step(k: u8) -> Option<(i32, i32)>
     ensures { result ≡ step_to k }
 {
     match k {
@@ -28,16 +29,34 @@ fn step(k: u8) -> Option<(i16, i16)>
 }
 
 // The cell in this row and column, if they are on the board.
-fn cell_on(size: Size, row: i16, column: i16) -> Option<u16>
+fn cell_on(size: Size, row: i32, column: i32) -> Option<u16>
     ensures { result ≡ cell_of size.n row column }
 {
-    let n = size.width();
-    let row = u16::try_from(row).ok()?;
-    let column = u16::try_from(column).ok()?;
-    if row >= n || column >= n {
+    let n = i32::from(size.width());
+    // Tested as they are: by `u16::try_from` finding a way takes a third longer.
+    if row < 0 || row >= n || column < 0 || column >= n {
         return None;
     }
-    Some(row * n + column)
+    Some(row as u16 * size.width() + column as u16)
+}
+
+// The k-th neighbour of the cell in this row and column.
+fn neighbour_at(size: Size, row: u16, column: u16, k: u8) -> Option<u16>
+    ensures { result ≡ neighbour_at size.n row column k }
+{
+    let (down, right) = step(k)?;
+    cell_on(size, i32::from(row) + down, i32::from(column) + right)
+}
+
+// The row and the column of a cell, if it is on the board.
+fn row_column(size: Size, cell: u16) -> Option<(u16, u16)>
+    ensures { MatchOption result (size.n * size.n ≤ cell) (λ p. (cell < size.n * size.n)
+        × (p.0 ≡ cell / size.n) × (p.1 ≡ cell % size.n)) }
+{
+    if cell >= size.cells() {
+        return None;
+    }
+    Some((cell / size.width(), cell % size.width()))
 }
 
 /// The k-th neighbour of a cell. None where the board ends there, for a cell that is not on the
@@ -46,13 +65,8 @@ pub fn neighbour(size: Size, cell: u16, k: u8) -> Option<u16>
     ensures value { result ≡ neighbour_of size.n cell k }
     ensures beside { IfSome result (Beside size.n cell) }
 {
-    if cell >= size.cells() {
-        return None;
-    }
-    let (down, right) = step(k)?;
-    let row = (cell / size.width()) as i16 + down;
-    let column = (cell % size.width()) as i16 + right;
-    cell_on(size, row, column)
+    let (row, column) = row_column(size, cell)?;
+    neighbour_at(size, row, column, k)
 }
 
 /// The cells that are next to a cell, one after the other in the order of `neighbour`: seen as the
@@ -60,17 +74,19 @@ pub fn neighbour(size: Size, cell: u16, k: u8) -> Option<u16>
 #[derive(Drop)]
 pub struct Neighbours {
     size: Size,
-    cell: u16,
+    // Where the cell lies, reckoned once and not for each neighbour.
+    row: u16,
+    column: u16,
     directions: Range<u8>,
 }
 
 impl Model for Neighbours {
     ghost use Rattle.std.specs.Prelude.{ℕ, ◌-◌, List};
-    ghost use Rattle.hexboard.specs.Geometry.{neighbour_of, given};
+    ghost use Rattle.hexboard.specs.Geometry.{neighbour_at, given};
 
     ghost Value = { List ℕ };
 
-    ghost view = { λ it. given (neighbour_of it.size.n it.cell) it.directions.start
+    ghost view = { λ it. given (neighbour_at it.size.n it.row it.column) it.directions.start
         (it.directions.end - it.directions.start) };
 }
 
@@ -80,9 +96,18 @@ impl Neighbours {
         ensures value { result ≡ neighbours size.n cell }
         ensures beside { (j : ℕ) → Beside size.n cell j ↔ Contains result j }
     {
+        let Some((row, column)) = row_column(size, cell) else {
+            return Neighbours {
+                size,
+                row: 0,
+                column: 0,
+                directions: 0..0,
+            };
+        };
         Neighbours {
             size,
-            cell,
+            row,
+            column,
             directions: 0..directions(),
         }
     }
@@ -96,8 +121,9 @@ impl Iterator for Neighbours {
     ghost remaining = { item_count (λ rest. rest) };
 
     fn next(&mut self) -> Option<u16> {
-        let (size, cell) = (self.size, self.cell);
-        self.directions.find_map(|k| neighbour(size, cell, k))
+        let (size, row, column) = (self.size, self.row, self.column);
+        self.directions
+            .find_map(|k| neighbour_at(size, row, column, k))
     }
 }
 

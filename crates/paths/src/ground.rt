@@ -21,7 +21,8 @@ impl Ground<'_> {
     pub fn is_own(&self, cell: u16) -> bool
         ensures { result ≡ (ground_of self.now).own cell }
     {
-        hexboard::stone(self.cells, cell) == Some(self.side)
+        // The byte, and not the side that it gives: the search asks for each neighbour.
+        self.cells.get(usize::from(cell)) == Some(&u8::from(self.side))
     }
 
     /// Whether a cell is at the side's first border.
