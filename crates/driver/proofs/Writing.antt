@@ -76,6 +76,12 @@ refusal_more (Some xs) (Some ys) all x number told line adds is told_is line_is 
 refusal_more (Some xs) None all x number told line adds is told_is line_is refused written = absurd adds
 refusal_more None b all x number told line adds is told_is line_is refused written = absurd written
 
+-- and stays when all is flushed;
+pub still_written : (a b : Option (List ℕ)) (P : List ℕ → Type 0) → Keeps a b → IsSomeAnd a P → IsSomeAnd b P
+still_written (Some xs) (Some ys) P kept p = subst P (sym kept) p
+still_written (Some xs) None P kept p = absurd kept
+still_written None b P kept p = absurd p
+
 -- or nothing for another answer
 pub nothing_more : (a : Option (List ℕ)) (all : List Exchange) (x : Exchange) → (IsRefusal x.reply → ⊥) → IsSomeAnd a (Written PrintsRefusal 1 all) → IsSomeAnd a (Written PrintsRefusal 1 (all ++ x ∷ []))
 nothing_more None all x no' written = absurd written

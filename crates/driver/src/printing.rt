@@ -99,7 +99,8 @@ impl<W: Write> Listener for Positions<W> {
     }
 }
 
-/// Writes each refusal, a line each, behind the number of the line that is refused.
+/// Writes each refusal, a line each, behind the number of the line that is refused, as soon as it is
+/// there.
 #[derive(Drop)]
 pub struct Refusals<W> {
     out: W,
@@ -136,6 +137,7 @@ impl<W: Write> Listener for Refusals<W> {
         if served.is_refused() {
             let told = table.told(served.told);
             writeln!(self.out, "line {number}: {told}")?;
+            self.out.flush()?;
         }
         Ok(())
     }

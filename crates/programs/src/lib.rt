@@ -8,6 +8,7 @@ ghost use Rattle.std.specs.Prelude.{◌≡◌};
 use anyhow::anyhow;
 use arguments::{Asked, Flag, Help, read_arguments};
 use driver::{Answers, Limits, Listener, Positions, Refusals, Table, serve_lines};
+use std::alloc::Global;
 use std::env;
 use std::io::{BufReader, BufWriter};
 use timed::Timed;
@@ -60,6 +61,11 @@ pub fn answer_input(rt: &HostRuntime, program: Program) -> anyhow::Result<()> {
     }
 }
 
+// A table with no board on it; or that there is no memory, in words of our own.
+fn new_table(heap: Global, limits: Limits) -> anyhow::Result<Table> {
+    Table::new(heap, limits).map_err(|_| anyhow!("there is no memory"))
+}
+
 // Serves standard input, and tells how long that took, if times are asked for.
 fn listen<L: Listener + Drop>(
     rt: &HostRuntime,
@@ -68,7 +74,7 @@ fn listen<L: Listener + Drop>(
     times: bool,
 ) -> anyhow::Result<()> {
     let heap = rt.alloc();
-    let mut table = Table::new(heap, limits)?;
+    let mut table = new_table(heap, limits)?;
     let mut input = BufReader::new(heap, rt.stdin())?;
     if times {
         let mut timed = Timed::new(rt, listener);
@@ -87,9 +93,10 @@ pub fn show_board(rt: &HostRuntime, program: Program) -> anyhow::Result<()> {
         return Ok(rt.print(&program.told())?);
     }
     let heap = rt.alloc();
-    let mut table = Table::new(heap, program.limits)?;
+    let mut table = new_table(heap, program.limits)?;
     let mut input = BufReader::new(heap, rt.stdin())?;
-    let mut refusals = Refusals::new(rt.stderr());
+    // Through a buffer, so that a line is written whole.
+    let mut refusals = Refusals::new(BufWriter::new(heap, rt.stderr())?);
     serve_lines(&mut table, &mut input, &mut refusals)?;
     match table.position(0) {
         Some(position) => Ok(rt.print(&position)?),
