@@ -10,5 +10,5 @@ mod unopened;
 
 pub use desk::Desk;
 pub use lent::{Closed, Parts, Sink, call, memory_for, open, play};
-pub use reply::Reply;
+pub use reply::{Reply, with_way};
 pub use unopened::Unopened;
