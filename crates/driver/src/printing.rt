@@ -99,8 +99,8 @@ impl<W: Write> Listener for Positions<W> {
     }
 }
 
-/// Writes each refusal, a line each, behind the number of the line that is refused, as soon as it is
-/// there.
+/// Writes each refusal, a line each, behind the number of the line that is refused, as soon as it
+/// is there.
 #[derive(Drop)]
 pub struct Refusals<W> {
     out: W,

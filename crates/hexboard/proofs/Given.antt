@@ -21,10 +21,10 @@ given_none next k zero h = refl
 given_none next k (suc m) h = rw (h k (omega arith) (omega arith)) (given_none next (suc k) m (λ i low high. h i (omega arith) (omega arith)))
 
 -- Two functions that give the same give the same list.
-pub given_same : (next after : ℕ → Option ℕ) (k m : ℕ) → ((i : ℕ) → next i ≡ after i) → given next k m ≡ given after k m
+pub given_same : (one other : ℕ → Option ℕ) (k m : ℕ) → ((i : ℕ) → one i ≡ other i) → given one k m ≡ given other k m
 unfolding given
-given_same next after k zero h = refl
-given_same next after k (suc m) h = rw (h k, given_same next after (suc k) m h) refl
+given_same one other k zero h = refl
+given_same one other k (suc m) h = rw (h k, given_same one other (suc k) m h) refl
 
 -- The first number's cell, if there is one, comes before the others'.
 pub given_more : (next : ℕ → Option ℕ) (k m : ℕ) → 0 < m → given next k m ≡ cons_option (next k) (given next (k + 1) (m - 1))

@@ -9,8 +9,8 @@ use wire::Answer;
 /// were lent for them, two a cell, low byte first.
 pub type Reply = Answer<u16>;
 
-/// The answer that a reply is, with the way that stands at the front of these bytes, two a cell, low
-/// byte first. If they have fewer cells than the reply tells, these alone.
+/// The answer that a reply is, with the way that stands at the front of these bytes, two a cell,
+/// low byte first. If they have fewer cells than the reply tells, these alone.
 pub fn with_way(reply: Reply, way: &[u8]) -> Answer<&[u8]>
     ensures value { told result ≡ replied reply way.now }
     ensures bytes { way_bytes result ≡ take
