@@ -9,8 +9,8 @@ use anyhow::anyhow;
 use arguments::{Asked, Flag, Help, read_arguments};
 use driver::{Answers, Limits, Listener, Positions, Refusals, Table, serve_lines};
 use std::alloc::Global;
-use std::env;
 use std::io::{BufReader, BufWriter};
+use std::{env, io, mem};
 use timed::Timed;
 
 /// A program: its name, what --help tells of it alone, how far it goes, and the flags that it takes
@@ -78,12 +78,24 @@ fn listen<L: Listener + Drop>(
     let mut input = BufReader::new(heap, rt.stdin())?;
     if times {
         let mut timed = Timed::new(rt, listener);
-        serve_lines(&mut table, &mut input, &mut timed)?;
-        Ok(rt.eprint(&timed.times())?)
+        let served = serve_lines(&mut table, &mut input, &mut timed);
+        let times = timed.times();
+        close(timed, served)?;
+        Ok(rt.eprint(&times)?)
     } else {
         let mut listener = listener;
-        Ok(serve_lines(&mut table, &mut input, &mut listener)?)
+        let served = serve_lines(&mut table, &mut input, &mut listener);
+        Ok(close(listener, served)?)
     }
+}
+
+// Lets go of a listener. One whose output has failed is kept from trying once more to write what it
+// still holds, as a buffer does where it is let go.
+fn close<L: Drop>(listener: L, served: io::Result<()>) -> io::Result<()> {
+    if served.is_err() {
+        mem::forget(listener);
+    }
+    served
 }
 
 /// Serves each line of standard input, tells what is refused on standard error, and at the end
@@ -97,7 +109,8 @@ pub fn show_board(rt: &HostRuntime, program: Program) -> anyhow::Result<()> {
     let mut input = BufReader::new(heap, rt.stdin())?;
     // Through a buffer, so that a line is written whole.
     let mut refusals = Refusals::new(BufWriter::new(heap, rt.stderr())?);
-    serve_lines(&mut table, &mut input, &mut refusals)?;
+    let served = serve_lines(&mut table, &mut input, &mut refusals);
+    close(refusals, served)?;
     match table.position(0) {
         Some(position) => Ok(rt.print(&position)?),
         None => Ok(eprintln!(rt; "no board was opened")?),
