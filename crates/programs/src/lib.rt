@@ -91,7 +91,9 @@ fn listen<L: Listener + Drop>(
 
 // Lets go of a listener. One whose output has failed is kept from trying once more to write what it
 // still holds, as a buffer does where it is let go.
-fn close<L: Drop>(listener: L, served: io::Result<()>) -> io::Result<()> {
+fn close<L: Drop>(listener: L, served: io::Result<()>) -> io::Result<()>
+    ensures { result ≡ served }
+{
     if served.is_err() {
         mem::forget(listener);
     }
