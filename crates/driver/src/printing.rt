@@ -94,6 +94,8 @@ impl<W: Write> Listener for Positions<W> {
     fn hear(&mut self, served: Served<u16>, table: &mut Table) -> io::Result<()> {
         let told = table.told(served.told);
         writeln!(self.out, "{told}")?;
+        // Before the position, so that the answer is there even where the drawing fails.
+        self.out.flush()?;
         self.write_position(served, table)?;
         self.out.flush()
     }

@@ -4,12 +4,13 @@
 mod timed;
 
 ghost use Rattle.std.specs.Prelude.{◌≡◌};
+ghost use Rattle.std.specs.IoError.{error_kind};
 
 use anyhow::anyhow;
 use arguments::{Asked, Flag, Help, read_arguments};
 use driver::{Answers, Limits, Listener, Positions, Refusals, Table, serve_lines};
 use std::alloc::Global;
-use std::io::{BufReader, BufWriter};
+use std::io::{BufReader, BufWriter, ErrorKind};
 use std::{env, io, mem};
 use timed::Timed;
 
@@ -80,12 +81,12 @@ fn listen<L: Listener + Drop>(
         let mut timed = Timed::new(rt, listener);
         let served = serve_lines(&mut table, &mut input, &mut timed);
         let times = timed.times();
-        close(timed, served)?;
+        close(timed, served).map_err(unbuffered)?;
         Ok(rt.eprint(&times)?)
     } else {
         let mut listener = listener;
         let served = serve_lines(&mut table, &mut input, &mut listener);
-        Ok(close(listener, served)?)
+        Ok(close(listener, served).map_err(unbuffered)?)
     }
 }
 
@@ -100,6 +101,20 @@ fn close<L: Drop>(listener: L, served: io::Result<()>) -> io::Result<()>
     served
 }
 
+// An error of writing through a buffer, in the words of a write without one: that an output took
+// nothing is told as the library tells it there, since a user knows of no buffer.
+fn unbuffered(error: io::Error) -> io::Error
+    ensures kind { error_kind result ≡ error_kind error }
+    ensures others { (error_kind error ≡ ErrorKind.WriteZero → ⊥) → result ≡ error }
+{
+    match error.kind() {
+        ErrorKind::WriteZero => {
+            io::Error::new(ErrorKind::WriteZero, "failed to write whole buffer")
+        }
+        _ => error,
+    }
+}
+
 /// Serves each line of standard input, tells what is refused on standard error, and at the end
 /// prints the position on standard output.
 pub fn show_board(rt: &HostRuntime, program: Program) -> anyhow::Result<()> {
@@ -112,7 +127,7 @@ pub fn show_board(rt: &HostRuntime, program: Program) -> anyhow::Result<()> {
     // Through a buffer, so that a line is written whole.
     let mut refusals = Refusals::new(BufWriter::new(heap, rt.stderr())?);
     let served = serve_lines(&mut table, &mut input, &mut refusals);
-    close(refusals, served)?;
+    close(refusals, served).map_err(unbuffered)?;
     match table.position(0) {
         Some(position) => Ok(rt.print(&position)?),
         None => Ok(eprintln!(rt; "no board was opened")?),

@@ -7,5 +7,5 @@ use Rattle.driver.proofs.printing.PositionsListener.hear.Goals as goal
 pub returns-clause-heard : goal.returns-clause-heard
 returns-clause-heard g c =
     let shown = c.in_ok-write_position.ensures.written in
-    made c.flush.result (λ all was. printed_more _ _ _ _ all (exchange_at c.args.table.now c.args.served) _ shown.0
-    c.in_ok-writeln.ensures.bytes shown.2 c.flush.ensures.bytes (ap reply_line c.told-told.ensures.value) shown.1 was)
+    made c.flush-2.result (λ all was. printed_more _ _ _ _ _ all (exchange_at c.args.table.now c.args.served) _ shown.0
+    c.in_ok-writeln.ensures.bytes c.in_ok-flush.ensures.bytes shown.2 c.flush-2.ensures.bytes (ap reply_line c.told-told.ensures.value) shown.1 was)
