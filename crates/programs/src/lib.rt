@@ -101,8 +101,8 @@ fn close<L: Drop>(listener: L, served: io::Result<()>) -> io::Result<()>
     served
 }
 
-// An error of writing through a buffer, in the words of a write without one: that an output took
-// nothing is told as the library tells it there, since a user knows of no buffer.
+// An error of serving, as the user is told of it. An output that takes nothing is told of in the
+// words of a write without a buffer, since a user knows of none; any other error as it is.
 fn unbuffered(error: io::Error) -> io::Error
     ensures kind { error_kind result ≡ error_kind error }
     ensures others { (error_kind error ≡ ErrorKind.WriteZero → ⊥) → result ≡ error }
