@@ -53,18 +53,17 @@ answer_more (Some xs) None d all x line first kept is written = absurd first
 answer_more None b d all x line first kept is written = absurd written
 
 -- and a position behind it
-pub printed_more : (a b c d e : Option (List ℕ)) (all : List Exchange) (x : Exchange) (line drawing : List ℕ) → Appends a b (line ++ codes "\n") → Keeps b c → Appends c d drawing → Keeps d e →
-    line ≡ reply_line x.reply → ShowsPosition x drawing → IsSomeAnd a (Written PrintsPosition 1 all) → IsSomeAnd e (Written PrintsPosition 1 (all ++ x ∷ []))
-printed_more (Some xs) (Some ys) (Some zs) (Some ws) (Some vs) all x line drawing first kept second kept' is shows written =
+pub printed_more : (a b c d : Option (List ℕ)) (all : List Exchange) (x : Exchange) (line drawing : List ℕ) → Appends a b (line ++ codes "\n") → Appends b c drawing → Keeps c d →
+    line ≡ reply_line x.reply → ShowsPosition x drawing → IsSomeAnd a (Written PrintsPosition 1 all) → IsSomeAnd d (Written PrintsPosition 1 (all ++ x ∷ []))
+printed_more (Some xs) (Some ys) (Some zs) (Some ws) all x line drawing first second kept is shows written =
     let added = reply_line x.reply ++ codes "\n" ++ drawing in
-    let bytes : vs ≡ xs ++ added =
-    kept' ∙ second ∙ ap (λ l. l ++ drawing) (kept ∙ first ∙ ap (λ l. xs ++ (l ++ codes "\n")) is) ∙ append_assoc xs (reply_line x.reply ++ codes "\n") drawing in
+    let bytes : ws ≡ xs ++ added =
+    kept ∙ second ∙ ap (λ l. l ++ drawing) (first ∙ ap (λ l. xs ++ (l ++ codes "\n")) is) ∙ append_assoc xs (reply_line x.reply ++ codes "\n") drawing in
     subst (Written PrintsPosition 1 (all ++ x ∷ [])) (sym bytes) (written_more x added written (drawing, shows, refl))
-printed_more (Some xs) (Some ys) (Some zs) (Some ws) None all x line drawing first kept second kept' is shows written = absurd kept'
-printed_more (Some xs) (Some ys) (Some zs) None e all x line drawing first kept second kept' is shows written = absurd second
-printed_more (Some xs) (Some ys) None d e all x line drawing first kept second kept' is shows written = absurd kept
-printed_more (Some xs) None c d e all x line drawing first kept second kept' is shows written = absurd first
-printed_more None b c d e all x line drawing first kept second kept' is shows written = absurd written
+printed_more (Some xs) (Some ys) (Some zs) None all x line drawing first second kept is shows written = absurd kept
+printed_more (Some xs) (Some ys) None d all x line drawing first second kept is shows written = absurd second
+printed_more (Some xs) None c d all x line drawing first second kept is shows written = absurd first
+printed_more None b c d all x line drawing first second kept is shows written = absurd written
 
 -- a refusal more is printed,
 pub refusal_more : (a b : Option (List ℕ)) (all : List Exchange) (x : Exchange) (number : ℕ) (told line : List ℕ) → Appends a b line → number ≡ counted (1 + length all) → told ≡ reply_line x.reply →
